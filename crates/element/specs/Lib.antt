@@ -1,0 +1,5 @@
+pub mod Bytes
+pub mod Model
+pub mod Order
+pub mod Ruled
+pub mod Registers
