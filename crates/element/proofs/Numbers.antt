@@ -5,10 +5,13 @@ use Prim.Native.Nat.{ℕ, zero, suc, _+_, _*_, _/_, _%_, _^_, _<_}
 use native.Mathlib.Nat.{pow-suc, mul-assoc, mul-comm, add-mul, add-mul-div-right, add-mul-mod-self-right, mod-eq-of-lt, mod-lt}
 use native.Mathlib.Omega.{arith}
 use lib.Arith.{mod-mul}
-use lib.ListN.{length, take, drop}
-use Rattle.std.proofs.shelf.Elements.{all-append, all-take, all-drop}
+use lib.ListN.{length, getD, take, drop}
+use Rattle.std.proofs.shelf.Elements.{all-append, all-take, all-drop, all-from-getD}
 use Rattle.std.proofs.shelf.Bits.{div-mul-add, mul-add-lt}
 use Rattle.element.specs.Bytes.{ByteString, be, after, number}
+
+pub bytes-from : (bs : List ℕ) → ((i : ℕ) → getD bs i 0 < 256) → ByteString bs
+bytes-from bs h = all-from-getD (λ b. b < 256) bs 0 (λ i l. h i)
 
 pub bytes-append : (xs ys : List ℕ) → ByteString xs → ByteString ys → ByteString (xs ++ ys)
 bytes-append xs ys h k = all-append (λ b. b < 256) xs ys h k

@@ -3,3 +3,5 @@ pub mod Model
 pub mod Order
 pub mod Ruled
 pub mod Registers
+pub mod Sets
+pub mod Counters

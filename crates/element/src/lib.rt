@@ -6,11 +6,19 @@ ghost use Rattle.std.specs.Options.{isSome};
 ghost use Rattle.element.specs.Bytes.{placed};
 ghost use Rattle.element.specs.Model.{Model, Laws};
 
+mod counter;
 mod place;
 mod register;
+mod set;
+mod set_record;
 
+pub use counter::Counter;
+pub use counter::CounterElement;
 pub use register::Register;
 pub use register::RegisterElement;
+pub use set::Set;
+pub use set_record::SetElement;
+pub use set_record::SetRecord;
 
 // An element type, by plain records: a table holds any record of the type, and each stands for an element.
 // What the calls mean is the model; what every type shows of it are the laws.
