@@ -5,3 +5,4 @@ pub mod Registers
 pub mod Unions
 pub mod Sets
 pub mod Counters
+pub mod Pairs

@@ -5,3 +5,4 @@ pub mod Ruled
 pub mod Registers
 pub mod Sets
 pub mod Counters
+pub mod Pairs

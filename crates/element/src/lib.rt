@@ -7,6 +7,7 @@ ghost use Rattle.element.specs.Bytes.{placed};
 ghost use Rattle.element.specs.Model.{Model, Laws};
 
 mod counter;
+mod pair;
 mod place;
 mod register;
 mod set;
@@ -14,6 +15,9 @@ mod set_record;
 
 pub use counter::Counter;
 pub use counter::CounterElement;
+pub use pair::Beside;
+pub use pair::Pair;
+pub use pair::PairElement;
 pub use register::Register;
 pub use register::RegisterElement;
 pub use set::Set;
