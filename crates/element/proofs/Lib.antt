@@ -6,3 +6,4 @@ pub mod Unions
 pub mod Sets
 pub mod Counters
 pub mod Pairs
+pub mod Orders

@@ -6,3 +6,5 @@ pub mod Registers
 pub mod Sets
 pub mod Counters
 pub mod Pairs
+pub mod Cards
+pub mod Tables

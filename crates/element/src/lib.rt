@@ -6,13 +6,22 @@ ghost use Rattle.std.specs.Options.{isSome};
 ghost use Rattle.element.specs.Bytes.{placed};
 ghost use Rattle.element.specs.Model.{Model, Laws};
 
+mod card;
+mod compare;
 mod counter;
 mod pair;
 mod place;
 mod register;
 mod set;
 mod set_record;
+mod table;
 
+pub use card::Card;
+pub use card::RegisterBesideRest;
+pub use card::SetBesideCounter;
+pub use card::new_card;
+pub use compare::at_most;
+pub use compare::same;
 pub use counter::Counter;
 pub use counter::CounterElement;
 pub use pair::Beside;
@@ -23,6 +32,7 @@ pub use register::RegisterElement;
 pub use set::Set;
 pub use set_record::SetElement;
 pub use set_record::SetRecord;
+pub use table::join_at;
 
 // An element type, by plain records: a table holds any record of the type, and each stands for an element.
 // What the calls mean is the model; what every type shows of it are the laws.
