@@ -1,11 +1,13 @@
 -- Byte strings and big-endian integers: the bytes of a number spell it, and a byte string is the bytes of the number that it spells.
 use mathlib.Core.Path.{_≡_, refl, sym, ap, ap₂, subst, _∙_}
-use mathlib.Core.List.{List, [], _∷_, _++_}
+use mathlib.Core.List.{List, [], _∷_, _++_, map}
 use Prim.Native.Nat.{ℕ, zero, suc, _+_, _*_, _/_, _%_, _^_, _<_}
-use native.Mathlib.Nat.{pow-suc, mul-assoc, mul-comm, add-mul, add-mul-div-right, add-mul-mod-self-right, mod-eq-of-lt, mod-lt}
+use native.Mathlib.Nat.{pow-suc, mul-assoc, mul-comm, add-mul, add-mul-div-right, add-mul-mod-self-right, mod-eq-of-lt, mod-lt, div-one}
 use native.Mathlib.Omega.{arith}
 use lib.Arith.{mod-mul}
 use lib.ListN.{length, getD, take, drop}
+use Rattle.std.specs.Iters.{counting}
+use Rattle.std.proofs.shelf.Counted.{fill-by-all}
 use Rattle.std.proofs.shelf.Elements.{all-append, all-take, all-drop, all-from-getD}
 use Rattle.std.proofs.shelf.Bits.{div-mul-add, mul-add-lt}
 use Rattle.element.specs.Bytes.{ByteString, be, after, number}
@@ -103,3 +105,21 @@ be-spelt k bs e h = ap (λ (n : ℕ). be n (number bs)) (sym e) ∙ be-number bs
 
 pub spelt-below : (k : ℕ) (bs : List ℕ) → length bs ≡ k → ByteString bs → number bs < 256 ^ k
 spelt-below k bs e h = subst (λ (n : ℕ). number bs < 256 ^ n) e (number-below bs h)
+
+-- a list of known length is known by its places
+by-places : (n : ℕ) (bs : List ℕ) → length bs ≡ n → map (λ k. getD bs k 0) (counting 0 n) ≡ bs
+by-places n bs l = sym (fill-by-all (λ k. getD bs k 0) bs n 0 l (λ k h. refl))
+
+-- a number by its four bytes, and by its eight
+pub spelt-by-four : (bs : List ℕ) → length bs ≡ 4 → getD bs 0 0 * 16777216 + getD bs 1 0 * 65536 + getD bs 2 0 * 256 + getD bs 3 0 ≡ number bs
+spelt-by-four bs l = omega arith ∙ ap number (by-places 4 bs l)
+
+pub spelt-by-eight : (bs : List ℕ) → length bs ≡ 8 → getD bs 0 0 * 72057594037927936 + getD bs 1 0 * 281474976710656 + getD bs 2 0 * 1099511627776 + getD bs 3 0 * 4294967296 + getD bs 4 0 * 16777216 + getD bs 5 0 * 65536 + getD bs 6 0 * 256 + getD bs 7 0 ≡ number bs
+spelt-by-eight bs l = omega arith ∙ ap number (by-places 8 bs l)
+
+-- the bytes of a number as the machine gives them
+pub four-of : (n : ℕ) → (n / 16777216 % 256) ∷ (n / 65536 % 256) ∷ (n / 256 % 256) ∷ (n % 256) ∷ [] ≡ be 4 n
+four-of n = rw div-one
+
+pub eight-of : (n : ℕ) → (n / 72057594037927936 % 256) ∷ (n / 281474976710656 % 256) ∷ (n / 1099511627776 % 256) ∷ (n / 4294967296 % 256) ∷ (n / 16777216 % 256) ∷ (n / 65536 % 256) ∷ (n / 256 % 256) ∷ (n % 256) ∷ [] ≡ be 8 n
+eight-of n = rw div-one

@@ -28,21 +28,26 @@ module _ {R : Type 0} {m : Model R} (l : Laws m) where
   pub order : Order m
   order = record {
     reflexive = λ x y h. record { is = sym (l .join-sees x y) ∙ ap (λ (z : R). m .joined z y) (h .is) ∙ l .join-sees y y ∙ l .join-idem y };
-    transitive = λ x y z p q. record { is =
-        sym (join-sees-right x z)
-        ∙ ap (m .joined x) (sym (q .is))
-        ∙ sym (l .join-assoc x y z)
-        ∙ ap (λ (w : R). m .joined w z) (p .is)
-        ∙ l .join-sees y z
-        ∙ q .is };
+    transitive = λ x y z p q. record {
+      is =
+          sym (join-sees-right x z)
+          ∙ ap (m .joined x) (sym (q .is))
+          ∙ sym (l .join-assoc x y z)
+          ∙ ap (λ (w : R). m .joined w z) (p .is)
+          ∙ l .join-sees y z
+          ∙ q .is;
+    };
     antisymmetric = λ x y p q. record { is = sym (q .is) ∙ l .join-comm y x ∙ p .is };
     bottom-least = λ x. record { is = l .join-bottom x };
-    join-above = λ x y.
-        ( record { is = sym (l .join-assoc x x y) ∙ ap (λ (w : R). m .joined w y) (l .join-idem x) ∙ l .join-sees x y ∙ sym (l .join-means x y) }
-        , record { is = ap (m .joined y) (l .join-comm x y) ∙ sym (l .join-assoc y y x) ∙ ap (λ (w : R). m .joined w x) (l .join-idem y) ∙ l .join-sees y x ∙ l .join-comm y x ∙ sym (l .join-means x y) });
-    join-least = λ x y z p q. record { is =
-        l .join-assoc x y z
-        ∙ ap (m .joined x) (q .is)
-        ∙ join-sees-right x z
-        ∙ p .is };
+    join-above = λ x y. (
+      record { is = sym (l .join-assoc x x y) ∙ ap (λ (w : R). m .joined w y) (l .join-idem x) ∙ l .join-sees x y ∙ sym (l .join-means x y) },
+      record { is = ap (m .joined y) (l .join-comm x y) ∙ sym (l .join-assoc y y x) ∙ ap (λ (w : R). m .joined w x) (l .join-idem y) ∙ l .join-sees y x ∙ l .join-comm y x ∙ sym (l .join-means x y) },
+    );
+    join-least = λ x y z p q. record {
+      is =
+          l .join-assoc x y z
+          ∙ ap (m .joined x) (q .is)
+          ∙ join-sees-right x z
+          ∙ p .is;
+    };
   }

@@ -6,32 +6,17 @@ ghost use Rattle.std.specs.Options.{isSome};
 ghost use Rattle.element.specs.Bytes.{placed};
 ghost use Rattle.element.specs.Model.{Model, Laws};
 
-mod card;
 mod compare;
-mod counter;
+mod memory;
 mod pair;
-mod place;
-mod register;
-mod set;
-mod set_record;
 mod table;
 
-pub use card::Card;
-pub use card::RegisterBesideRest;
-pub use card::SetBesideCounter;
-pub use card::new_card;
 pub use compare::at_most;
 pub use compare::same;
-pub use counter::Counter;
-pub use counter::CounterElement;
+pub use memory::place;
 pub use pair::Beside;
 pub use pair::Pair;
 pub use pair::PairElement;
-pub use register::Register;
-pub use register::RegisterElement;
-pub use set::Set;
-pub use set_record::SetElement;
-pub use set_record::SetRecord;
 pub use table::join_at;
 
 // An element type, by plain records: a table holds any record of the type, and each stands for an element.

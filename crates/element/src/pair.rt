@@ -19,7 +19,10 @@ pub impl<X: Element + Beside<Y>, Y: Element> Element for Pair<X, Y> as PairEleme
     ghost model = { pair (X·Element .model) (Y·Element .model) };
 
     fn bottom() -> Pair<X, Y> {
-        Pair { first: X::bottom(), second: Y::bottom() }
+        Pair {
+            first: X::bottom(),
+            second: Y::bottom(),
+        }
     }
 
     fn join(self, other: Pair<X, Y>) -> Pair<X, Y> {

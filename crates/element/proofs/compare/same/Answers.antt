@@ -22,9 +22,10 @@ module _ {R : Type 0} {m : Model R} (l : Laws m) (out : List ℕ) (wide : length
       ap (take (m .width)) (e ∙ placed-room (m .written x) out (omega arith)) ∙ take-at (m .written x) _ (m .width) w
 
   tells : (x y : R) (left right : List ℕ) (r : Bool) → left ≡ placed (m .written x) out → right ≡ placed (m .written y) out → Decides r (left ≡ right) → Decides r (Same m x y)
-  tells x y left right r p q d =
-      ( (λ h. written-same l x y (sym (front x left p) ∙ ap (take (m .width)) (d .0 h) ∙ front y right q))
-      , (λ h. d .1 (p ∙ ap (λ (bs : List ℕ). placed bs out) (same-written l x y h) ∙ sym q)))
+  tells x y left right r p q d = (
+    (λ h. written-same l x y (sym (front x left p) ∙ ap (take (m .width)) (d .0 h) ∙ front y right q)),
+    (λ h. d .1 (p ∙ ap (λ (bs : List ℕ). placed bs out) (same-written l x y h) ∙ sym q)),
+  )
 
 pub returns : need.returns
 returns g c =

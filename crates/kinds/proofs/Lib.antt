@@ -1,0 +1,4 @@
+pub mod Registers
+pub mod Unions
+pub mod Sets
+pub mod Counters

@@ -1,0 +1,4 @@
+pub mod Registers
+pub mod Sets
+pub mod Counters
+pub mod Cards
