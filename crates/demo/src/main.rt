@@ -1,0 +1,93 @@
+// Two copies of a small table of mast cards, an office's and a laptop's, are joined key by key.
+mod copies;
+mod print;
+
+use copies::SITES;
+use copies::digest_of;
+use copies::joined;
+use copies::laptop;
+use copies::office;
+use element::PairElement;
+use element::at_most;
+use element::same;
+use kinds::Card;
+use kinds::CounterElement;
+use kinds::RegisterBesideRest;
+use kinds::RegisterElement;
+use kinds::SetBesideCounter;
+use kinds::SetElement;
+use print::print_table;
+use std::error::AnyError;
+
+// Whether the two tables stand for the same elements at every key.
+fn agree(a: &[Card; SITES], b: &[Card; SITES]) -> bool {
+    for key in 0..SITES {
+        if !same(a[key], b[key]) {
+            return false;
+        }
+    }
+    true
+}
+
+// Whether every element of `part` is still in `whole`: at each key at most what stands there.
+fn stands(part: &[Card; SITES], whole: &[Card; SITES]) -> bool {
+    for key in 0..SITES {
+        if !at_most(part[key], whole[key]) {
+            return false;
+        }
+    }
+    true
+}
+
+fn run(rt: &LibcRuntime) -> Result<(), AnyError> {
+    let office = office();
+    let laptop = laptop();
+    print_table(rt, "the office's copy", &office)?;
+    print_table(rt, "the laptop's copy", &laptop)?;
+    let here = joined(office, &laptop);
+    let there = joined(laptop, &office);
+    print_table(
+        rt,
+        "the office's copy, with the laptop's joined into it",
+        &here,
+    )?;
+    println!(rt, "both orders of joining agree: {}", agree(&here, &there))?;
+    println!(
+        rt,
+        "all that the office had stands: {}",
+        stands(&office, &here)
+    )?;
+    println!(
+        rt,
+        "all that the laptop had stands: {}",
+        stands(&laptop, &here)
+    )?;
+    println!(
+        rt,
+        "the height of site 0 is the corrected one: {}",
+        here[0].first.value == 3050
+    )?;
+    println!(
+        rt,
+        "position 1 of site 1 stays removed: {}",
+        here[1].second.first.removed == 2
+    )?;
+    let heap = rt.alloc();
+    let before = digest_of(heap, &office)?;
+    println!(
+        rt,
+        "fnv before: {before:016x} at the office, {:016x} on the laptop",
+        digest_of(heap, &laptop)?
+    )?;
+    let after = digest_of(heap, &here)?;
+    println!(
+        rt,
+        "fnv after:  {after:016x} at the office, {:016x} on the laptop",
+        digest_of(heap, &there)?
+    )?;
+    Ok(())
+}
+
+fn main(rt: LibcRuntime) -> Result<(), AnyError> {
+    rt.report(run(&rt))
+}

@@ -1,0 +1,47 @@
+// Tables and cards as text.
+use crate::copies::SITES;
+use element::PairElement;
+use kinds::Card;
+use kinds::CounterElement;
+use kinds::RegisterBesideRest;
+use kinds::RegisterElement;
+use kinds::SetBesideCounter;
+use kinds::SetElement;
+use kinds::SetRecord;
+use std::io;
+
+// The positions that stand: added, and not removed since.
+fn print_positions(rt: &LibcRuntime, record: SetRecord) -> io::Result<()> {
+    let (added, removed) = record.standing().masks();
+    for position in 0..64u32 {
+        if (added & !removed) >> position & 1 == 1 {
+            print!(rt, " {position}")?;
+        }
+    }
+    Ok(())
+}
+
+fn print_card(rt: &LibcRuntime, key: usize, card: &Card) -> io::Result<()> {
+    let height = card.first;
+    let mut samples = 0u64;
+    for seat in card.second.second.seats {
+        samples = samples.saturating_add(u64::from(seat));
+    }
+    let value = height.value;
+    let stamp = height.stamp;
+    let office = height.office;
+    print!(
+        rt,
+        "  site {key}: {value} cm above ground (stamp {stamp}, office {office}), {samples} samples, positions"
+    )?;
+    print_positions(rt, card.second.first)?;
+    println!(rt, "")
+}
+
+pub fn print_table(rt: &LibcRuntime, title: &str, table: &[Card; SITES]) -> io::Result<()> {
+    println!(rt, "{title}")?;
+    for (key, card) in table.iter().enumerate() {
+        print_card(rt, key, card)?;
+    }
+    Ok(())
+}
