@@ -60,7 +60,7 @@ pub fn laptop() -> [Card; SITES] {
 pub fn joined(into: [Card; SITES], from: &[Card; SITES]) -> [Card; SITES] {
     let mut table = into;
     for key in 0..SITES {
-        join_at(&mut table, key, from[key]);
+        let _ = join_at(&mut table, key, from[key]);
     }
     table
 }

@@ -3,4 +3,5 @@ pub mod Model
 pub mod Order
 pub mod Ruled
 pub mod Pairs
+pub mod Refusals
 pub mod Tables

@@ -9,6 +9,7 @@ ghost use Rattle.element.specs.Model.{Model, Laws};
 mod compare;
 mod memory;
 mod pair;
+mod refusal;
 mod table;
 
 pub use compare::at_most;
@@ -17,6 +18,7 @@ pub use memory::place;
 pub use pair::Beside;
 pub use pair::Pair;
 pub use pair::PairElement;
+pub use refusal::Refusal;
 pub use table::join_at;
 
 // An element type, by plain records: a table holds any record of the type, and each stands for an element.

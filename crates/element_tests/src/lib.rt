@@ -15,6 +15,7 @@ mod tests {
     use element::Element;
     use element::Pair;
     use element::PairElement;
+    use element::Refusal;
     use element::at_most;
     use element::join_at;
     use element::same;
@@ -205,13 +206,13 @@ mod tests {
         let mut table = [Peak { value: 4 }, Peak { value: 4 }];
         check(matches!(
             join_at(&mut table, 1, Peak { value: 6 }),
-            Some(Peak { value: 6 })
+            Ok(Peak { value: 6 })
         ))?;
         check(matches!(
             join_at(&mut table, 1, Peak { value: 5 }),
-            Some(Peak { value: 6 })
+            Ok(Peak { value: 6 })
         ))?;
-        check(join_at(&mut table, 2, Peak { value: 9 }).is_none())?;
+        check(matches!(join_at(&mut table, 2, Peak { value: 9 }), Err(Refusal::Key)))?;
         check_eq(table[0].value, 4)?;
         check_eq(table[1].value, 6)
     }
