@@ -1,0 +1,13 @@
+pub mod Powers
+pub mod Covering
+pub mod Levels
+pub mod Following
+pub mod Places
+pub mod Forward
+pub mod Sizing
+pub mod Buffers
+pub mod Filling
+pub mod Merkles
+pub mod Telling
+pub mod Climbing
+pub mod Renewals

@@ -1,0 +1,13 @@
+use mathlib.Core.Path.{ap₂, _∙_}
+use mathlib.Core.List.{List, _∷_, _++_}
+use Prim.Native.Nat.{ℕ}
+use borrow.Rule.Slice.PartMut.{putMid}
+use lib.ListN.{replicate}
+use Rattle.element.proofs.Numbers.{eight-of}
+use Rattle.tree.proofs.digests.node_of.Needs as need
+
+pub returns : need.returns
+returns c =
+    let a = c .copy-from-slice .ensures .after ∙ c .to-be-bytes .ensures ∙ eight-of (c .args .lower) in
+    let b = c .copy-from-slice-2 .ensures .after ∙ c .to-be-bytes-2 .ensures ∙ eight-of (c .args .upper) in
+    ap₂ (λ (xs ys : List ℕ). putMid 9 8 (1 ∷ (xs ++ replicate 8 1)) ys) a b

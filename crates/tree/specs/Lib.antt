@@ -1,0 +1,5 @@
+pub mod Sizes
+pub mod Ranges
+pub mod Walk
+pub mod Tree
+pub mod Renewal
