@@ -132,8 +132,8 @@ mod tests {
         check(Set::new(4, 1).is_none())?;
         check(Set::new(5, 1).is_some())?;
         check(set(4, 1).checked().is_none())?;
-        check_eq(set(4, 1).standing().masks(), (0, 0))?;
-        check_eq(set(5, 1).standing().masks(), (5, 1))?;
+        check_eq(set(4, 1).as_set().masks(), (0, 0))?;
+        check_eq(set(5, 1).as_set().masks(), (5, 1))?;
         check_eq(set(4, 1).join(set(2, 0)).added, 2)?;
         check(same(set(4, 1), set(0, 0)))
     }

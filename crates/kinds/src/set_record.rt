@@ -5,7 +5,7 @@ ghost use lib.ListN.{length};
 ghost use Rattle.std.specs.Options.{Cases as BySome};
 ghost use Rattle.element.specs.Ruled.{ruled, meant};
 ghost use Rattle.kinds.specs.Sets.{position-set, set-of, within};
-use crate::integers::long;
+use crate::integers::u64_from;
 use crate::set::Set;
 use element::Element;
 use element::place;
@@ -33,8 +33,8 @@ impl SetRecord {
         Set::new(self.added, self.removed)
     }
 
-    // The set that this record stands for: the empty one where it breaks the rule.
-    pub fn standing(self) -> Set
+    // The set that this record stands for, the empty one where it breaks the rule.
+    pub fn as_set(self) -> Set
         ensures { λ r. ⌜ set-of (r .added) (r .removed) ≡ meant position-set self ⌝ }
     {
         match self.checked() {
@@ -51,12 +51,13 @@ impl SetRecord {
             return None;
         }
         Some(SetRecord {
-            added: long(&bytes[0..8]),
-            removed: long(&bytes[8..16]),
+            added: u64_from(&bytes[0..8]),
+            removed: u64_from(&bytes[8..16]),
         })
     }
 
-    fn octets(self) -> [u8; 16]
+    // The bytes of this record as it is, lawful or not.
+    fn to_bytes(self) -> [u8; 16]
         ensures { λ r. ⌜ r ≡ position-set .bytes self ⌝ }
     {
         let mut bytes = [0; 16];
@@ -77,7 +78,7 @@ pub impl Element for SetRecord as SetElement {
     }
 
     fn join(self, other: SetRecord) -> SetRecord {
-        SetRecord::of(self.standing().join(other.standing()))
+        SetRecord::of(self.as_set().join(other.as_set()))
     }
 
     fn width() -> usize {
@@ -85,7 +86,7 @@ pub impl Element for SetRecord as SetElement {
     }
 
     fn write(&self, out: &mut [u8]) -> bool {
-        place(&SetRecord::of(self.standing()).octets(), out)
+        place(&SetRecord::of(self.as_set()).to_bytes(), out)
     }
 
     fn read(bytes: &[u8]) -> Option<SetRecord> {
