@@ -1,10 +1,9 @@
 // The plain record of a set of mast positions, as tables hold it.
 ghost use mathlib.Core.Bool.{true, false};
 ghost use mathlib.Core.Path.{_≡_};
-ghost use lib.ListN.{length};
 ghost use Rattle.std.specs.Options.{Cases as BySome};
 ghost use Rattle.element.specs.Ruled.{ruled, meant};
-ghost use Rattle.kinds.specs.Sets.{position-set, set-of, within};
+ghost use Rattle.kinds.specs.Sets.{position-set, set-of, lawful-set, spelt-set};
 use crate::integers::u64_from;
 use crate::set::Set;
 use element::Element;
@@ -28,7 +27,7 @@ impl SetRecord {
 
     // The set of this record, or none where it breaks the rule.
     pub fn checked(self) -> Option<Set>
-        ensures { λ r. ⌜ BySome r (within self ≡ false) (λ s. (set-of (s .added) (s .removed) ≡ self) × (within self ≡ true)) ⌝ }
+        ensures { λ r. ⌜ BySome r (lawful-set self ≡ false) (λ s. (set-of (s .added) (s .removed) ≡ self) × (lawful-set self ≡ true)) ⌝ }
     {
         Set::new(self.added, self.removed)
     }
@@ -43,9 +42,9 @@ impl SetRecord {
         }
     }
 
-    // The record that 16 bytes spell, lawful or not.
+    // The record that 16 bytes spell, lawful or not, or none where there are not 16.
     fn spelt(bytes: &[u8]) -> Option<SetRecord>
-        ensures { λ r. ⌜ BySome r (length (now (bytes .entry)) ≡ 16 → ⊥) (λ x. (x ≡ position-set .spelt (now (bytes .entry))) × (length (now (bytes .entry)) ≡ 16)) ⌝ }
+        ensures { λ r. ⌜ r ≡ spelt-set (now (bytes .entry)) ⌝ }
     {
         if bytes.len() != 16 {
             return None;
