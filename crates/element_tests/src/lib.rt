@@ -139,6 +139,13 @@ mod tests {
     }
 
     #[test]
+    fn a_broken_set_is_written_as_the_empty_one() -> Result<(), Fail> {
+        let mut bytes = [9; 16];
+        check(set(4, 1).write(&mut bytes))?;
+        check(bytes == [0; 16])
+    }
+
+    #[test]
     fn unlawful_set_bytes_are_refused() -> Result<(), Fail> {
         let mut bytes = [0u8; 16];
         bytes[7] = 4;
@@ -189,6 +196,23 @@ mod tests {
             Some(card) => check(same(card, known_card())),
             None => Err(Fail::new("the bytes are lawful")),
         }
+    }
+
+    #[test]
+    fn a_card_with_a_broken_set_keeps_its_other_parts() -> Result<(), Fail> {
+        let whole = known_card();
+        let broken = new_card(whole.first, set(4, 1), whole.second.second);
+        let joined = broken.join(Card::bottom());
+        check_eq(joined.first.value, 305000)?;
+        check_eq(joined.second.first.added, 0)?;
+        check(joined.second.second.seats == whole.second.second.seats)?;
+        let mut expected = KNOWN;
+        for i in 14..30 {
+            expected[i] = 0;
+        }
+        let mut bytes = [9; 62];
+        check(broken.write(&mut bytes))?;
+        check(bytes == expected)
     }
 
     #[test]
