@@ -36,7 +36,7 @@ fn entry(height: (u64, u16, u32), positions: (u64, u64), seats: [u32; 8]) -> Car
 }
 
 // The office entered the height of site 0 above sea level, and does not know of site 3.
-pub fn office() -> [Card; SITES] {
+pub fn office_copy() -> [Card; SITES] {
     [
         entry((100, 7, 41250), (1, 0), [12, 0, 0, 0, 0, 0, 0, 0]),
         entry((101, 7, 2480), (7, 0), [5, 0, 0, 0, 0, 0, 0, 0]),
@@ -47,7 +47,7 @@ pub fn office() -> [Card; SITES] {
 
 // The laptop corrected the height of site 0, removed position 1 of site 1, counted samples in the field and found a
 // new mast.
-pub fn laptop() -> [Card; SITES] {
+pub fn laptop_copy() -> [Card; SITES] {
     [
         entry((120, 7, 3050), (1, 0), [12, 0, 0, 0, 0, 0, 0, 0]),
         entry((101, 7, 2480), (7, 2), [5, 0, 0, 9, 0, 0, 0, 0]),
@@ -65,7 +65,8 @@ pub fn joined(into: [Card; SITES], from: &[Card; SITES]) -> [Card; SITES] {
     table
 }
 
-// The fnv of the bytes of all cards, key by key.
+// The fnv of the bytes of all cards, key by key. A card has 62 bytes: 14 of the height, 16 of the positions and 32 of
+// the samples.
 pub fn digest_of(heap: Global, table: &[Card; SITES]) -> Result<u64, AllocError> {
     let mut bytes = Vec::new(heap);
     for card in table {

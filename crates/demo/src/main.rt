@@ -5,8 +5,8 @@ mod print;
 use copies::SITES;
 use copies::digest_of;
 use copies::joined;
-use copies::laptop;
-use copies::office;
+use copies::laptop_copy;
+use copies::office_copy;
 use element::PairElement;
 use element::at_most;
 use element::same;
@@ -29,8 +29,8 @@ fn agree(a: &[Card; SITES], b: &[Card; SITES]) -> bool {
     true
 }
 
-// Whether every element of `part` is still in `whole`: at each key at most what stands there.
-fn stands(part: &[Card; SITES], whole: &[Card; SITES]) -> bool {
+// Whether at every key the element of `part` is at most that of `whole`, so that nothing of `part` is lost in it.
+fn at_most_everywhere(part: &[Card; SITES], whole: &[Card; SITES]) -> bool {
     for key in 0..SITES {
         if !at_most(part[key], whole[key]) {
             return false;
@@ -40,8 +40,8 @@ fn stands(part: &[Card; SITES], whole: &[Card; SITES]) -> bool {
 }
 
 fn run(rt: &LibcRuntime) -> Result<(), AnyError> {
-    let office = office();
-    let laptop = laptop();
+    let office = office_copy();
+    let laptop = laptop_copy();
     print_table(rt, "the office's copy", &office)?;
     print_table(rt, "the laptop's copy", &laptop)?;
     let here = joined(office, &laptop);
@@ -55,12 +55,12 @@ fn run(rt: &LibcRuntime) -> Result<(), AnyError> {
     println!(
         rt,
         "all that the office had stands: {}",
-        stands(&office, &here)
+        at_most_everywhere(&office, &here)
     )?;
     println!(
         rt,
         "all that the laptop had stands: {}",
-        stands(&laptop, &here)
+        at_most_everywhere(&laptop, &here)
     )?;
     println!(
         rt,

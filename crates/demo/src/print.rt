@@ -1,18 +1,12 @@
 // Tables and cards as text.
 use crate::copies::SITES;
-use element::PairElement;
 use kinds::Card;
-use kinds::CounterElement;
-use kinds::RegisterBesideRest;
-use kinds::RegisterElement;
-use kinds::SetBesideCounter;
-use kinds::SetElement;
 use kinds::SetRecord;
 use std::io;
 
 // The positions that stand: added, and not removed since.
 fn print_positions(rt: &LibcRuntime, record: SetRecord) -> io::Result<()> {
-    let (added, removed) = record.standing().masks();
+    let (added, removed) = record.as_set().masks();
     for position in 0..64u32 {
         if (added & !removed) >> position & 1 == 1 {
             print!(rt, " {position}")?;
@@ -23,6 +17,8 @@ fn print_positions(rt: &LibcRuntime, record: SetRecord) -> io::Result<()> {
 
 fn print_card(rt: &LibcRuntime, key: usize, card: &Card) -> io::Result<()> {
     let height = card.first;
+    // Eight seats of 32 bits have a sum below 2 to the power 35. So `saturating_add` never meets its limit: it is here
+    // because the proof then needs no bound for the sum.
     let mut samples = 0u64;
     for seat in card.second.second.seats {
         samples = samples.saturating_add(u64::from(seat));

@@ -1,10 +1,12 @@
--- The two digests, each a fold over the bytes of its input, first byte first.
+-- The two digests, each over all bytes of its input.
 use mathlib.Core.List.{List}
-use Prim.Native.Nat.{ℕ, _+_, _*_, _%_, _^_}
+use Prim.Native.Nat.{ℕ, _*_, _%_, _^_}
 use lib.Bits.{bitXor}
 use Rattle.std.specs.Iters.{folded}
+use Rattle.std.specs.shelf.Lists.{sum as plain-sum}
 
--- FNV-1a of 64 bits: exclusive or with the byte, then multiplication modulo 2 to the power 64.
+-- FNV-1a of 64 bits, from the first byte to the last: exclusive or with the byte, then multiplication modulo 2 to the
+-- power 64.
 abbrev pub fnv-start : ℕ
 fnv-start = 0xcbf29ce484222325
 
@@ -14,9 +16,6 @@ fnv-step h b = bitXor h b * 0x100000001b3 % 2 ^ 64
 abbrev pub fnv : List ℕ → ℕ
 fnv bs = folded fnv-step fnv-start bs
 
--- The sum of the bytes modulo 65,536.
-abbrev pub sum-step : ℕ → ℕ → ℕ
-sum-step h b = (h + b) % 65536
-
+-- The sum of the bytes, modulo 65,536.
 abbrev pub sum : List ℕ → ℕ
-sum bs = folded sum-step 0 bs
+sum bs = plain-sum bs % 65536

@@ -1,4 +1,5 @@
 pub mod Numbers
+pub mod Options
 pub mod Writes
 pub mod Rules
 pub mod Orders

@@ -1,16 +1,10 @@
 -- The order of elements, from the laws of join.
-use mathlib.Core.Path.{_≡_, refl, sym, ap, _∙_}
-use Rattle.std.specs.declared.option.Option.the-variants.{Some}
+use mathlib.Core.Path.{_≡_, sym, ap, _∙_}
 use Rattle.element.specs.Model.{Model, Laws}
-use Rattle.element.specs.Order.{Same, AtMost, Order}
-
-some-same : {A : Type 0} {x y : A} → Some x ≡ Some y → x ≡ y
-some-same h = cc
+use Rattle.element.specs.Order.{Same, Order}
+use Rattle.element.proofs.Options.{same-some}
 
 module _ {R : Type 0} {m : Model R} (l : Laws m) where
-  pub means-once : (x : R) → m .means (m .means x) ≡ m .means x
-  means-once x = ap (m .means) (sym (l .join-idem x)) ∙ l .join-means x x ∙ l .join-idem x
-
   -- join sees only what its second argument stands for, too
   pub join-sees-right : (x y : R) → m .joined x (m .means y) ≡ m .joined x y
   join-sees-right x y = l .join-comm x (m .means y) ∙ l .join-sees y x ∙ l .join-comm y x
@@ -23,7 +17,7 @@ module _ {R : Type 0} {m : Model R} (l : Laws m) where
   same-written x y h = sym (written-means x) ∙ ap (m .written) (h .is) ∙ written-means y
 
   pub written-same : (x y : R) → m .written x ≡ m .written y → Same m x y
-  written-same x y e = record { is = some-same (sym (l .read-back x) ∙ ap (m .parsed) e ∙ l .read-back y) }
+  written-same x y e = record { is = same-some (sym (l .read-back x) ∙ ap (m .parsed) e ∙ l .read-back y) }
 
   pub order : Order m
   order = record {

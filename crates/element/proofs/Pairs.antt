@@ -1,13 +1,12 @@
 -- The laws of a pair, from those of its parts.
-use mathlib.Core.Path.{_≡_, refl, sym, ap, ap₂, _∙_}
-use mathlib.Core.Bool.{Bool, true, false, cond}
+use mathlib.Core.Path.{_≡_, sym, ap, ap₂, _∙_}
 use mathlib.Core.List.{List, _++_}
 use Prim.Native.Nat.{ℕ, _+_, _≤_}
 use native.Mathlib.Omega.{arith}
 use lib.Dec.{eqb}
 use lib.ListN.{length, take, drop, length-append, take-append-drop}
 use Rattle.std.proofs.shelf.Lists.{take-at, drop-at}
-use Rattle.std.proofs.shelf.Tests.{cond-true, eq-eqb, eqb-true}
+use Rattle.std.proofs.shelf.Tests.{cond-true, eq-eqb}
 use Rattle.std.specs.declared.option.Option.{Option}
 use Rattle.std.specs.declared.option.Option.the-variants.{Some, None}
 use Rattle.element.specs.Bytes.{ByteString}
@@ -15,15 +14,12 @@ use Rattle.element.specs.Model.{Model, Laws}
 use Rattle.element.specs.Pairs.{pair, pair-of, both}
 use Rattle.element.specs.declared.pair.Pair.{Pair}
 use Rattle.element.proofs.Numbers.{bytes-append, bytes-take, bytes-drop}
+use Rattle.element.proofs.Options.{when-some}
 
 both-parts : {A B : Type 0} (p : Option A) (q : Option B) (x : Pair A B) → both p q ≡ Some x → (p ≡ Some (x .first)) × (q ≡ Some (x .second))
 both-parts (Some a) (Some b) x h = let e : pair-of a b ≡ x = cc in (ap (λ (y : Pair _ _). Some (y .first)) e, ap (λ (y : Pair _ _). Some (y .second)) e)
 both-parts (Some a) None x h = absurd (let z : _≡_ {A = ℕ} 0 1 = cc in omega arith)
 both-parts None q x h = absurd (let z : _≡_ {A = ℕ} 0 1 = cc in omega arith)
-
-pub when-some : {A : Type 0} (b : Bool) (p : Option A) (x : A) → cond b p None ≡ Some x → (b ≡ true) × (p ≡ Some x)
-when-some true p x h = (refl, h)
-when-some false p x h = absurd (let z : _≡_ {A = ℕ} 0 1 = cc in omega arith)
 
 module _ {A B : Type 0} {m : Model A} {n : Model B} (l : Laws m) (k : Laws n) where
   front : (x : Pair A B) → take (m .width) (pair m n .written x) ≡ m .written (x .first)

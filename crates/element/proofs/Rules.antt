@@ -1,17 +1,17 @@
 -- The laws of an element type whose records have a rule, from what holds of the records that keep it.
-use mathlib.Core.Path.{_≡_, refl, sym, ap, ap₂, _∙_}
-use mathlib.Core.Bool.{Bool, true, false, cond, _&&_}
+use mathlib.Core.Path.{_≡_, sym, ap, _∙_}
+use mathlib.Core.Bool.{true, false, _&&_}
 use mathlib.Core.Logic.{⊎-elim}
 use mathlib.Core.List.{List}
 use Prim.Native.Nat.{ℕ, _≤_}
 use lib.Dec.{eqb}
 use lib.ListN.{length}
-use Rattle.std.proofs.shelf.Tests.{cases-bool, cond-true, cond-false, and-from, and-left, and-right, and-parts, eq-eqb, ne-eqb, eqb-true}
-use Rattle.std.specs.declared.option.Option.{Option}
+use Rattle.std.proofs.shelf.Tests.{cases-bool, cond-true, cond-false, and-from, and-parts, eq-eqb, eqb-true}
 use Rattle.std.specs.declared.option.Option.the-variants.{Some, None}
 use Rattle.element.specs.Bytes.{ByteString}
 use Rattle.element.specs.Model.{Laws}
 use Rattle.element.specs.Ruled.{Ruled, ruled, meant}
+use Rattle.element.proofs.Options.{same-some, when-some}
 
 -- What is to be shown of a new type of this kind.
 pub record Sound {R : Type 0} (k : Ruled R) : Type 0 where
@@ -27,10 +27,6 @@ pub record Sound {R : Type 0} (k : Ruled R) : Type 0 where
   pub octets : (x : R) → k .keeps x ≡ true → ByteString (k .bytes x)
   pub back : (x : R) → k .keeps x ≡ true → k .spelt (k .bytes x) ≡ x
   pub forth : (bs : List ℕ) → ByteString bs → length bs ≡ k .width → k .bytes (k .spelt bs) ≡ bs
-
-some-both : {A : Type 0} {x y : A} (b : Bool) → cond b (Some x) None ≡ Some y → (b ≡ true) × (x ≡ y)
-some-both true h = (refl, cc)
-some-both false h = absurd (let z : _≡_ {A = ℕ} 0 1 = cc in omega native.Mathlib.Omega.arith)
 
 module _ {R : Type 0} {k : Ruled R} (s : Sound k) where
   -- a record that keeps the rule stands for itself
@@ -65,9 +61,9 @@ module _ {R : Type 0} {k : Ruled R} (s : Sound k) where
 
   write-back : (bs : List ℕ) → ByteString bs → (x : R) → ruled k .parsed bs ≡ Some x → ruled k .written x ≡ bs
   write-back bs o x h =
-      let p = some-both (eqb (length bs) (k .width) && k .keeps (k .spelt bs)) h in
+      let p = when-some (eqb (length bs) (k .width) && k .keeps (k .spelt bs)) (Some (k .spelt bs)) x h in
       let q = and-parts _ _ (p .0) in
-      ap (λ (y : R). k .bytes (meant k y)) (sym (p .1))
+      ap (λ (y : R). k .bytes (meant k y)) (sym (same-some (p .1)))
       ∙ ap (k .bytes) (keeps-meant (k .spelt bs) (q .1))
       ∙ s .forth bs o (eqb-true _ _ (q .0))
 
@@ -88,13 +84,7 @@ module _ {R : Type 0} {k : Ruled R} (s : Sound k) where
     write-back = write-back;
   }
 
--- What reading answers, by what was found of the bytes.
+-- What reading answers, where the bytes are lawful.
 module _ {R : Type 0} (k : Ruled R) (bs : List ℕ) where
   pub read-lawful : (x : R) → length bs ≡ k .width → x ≡ k .spelt bs → k .keeps x ≡ true → Some x ≡ ruled k .parsed bs
   read-lawful x l e h = ap Some e ∙ sym (cond-true _ _ None (and-from _ _ (eq-eqb _ _ l) (ap (k .keeps) (sym e) ∙ h)))
-
-  pub read-unlawful : (x : R) → x ≡ k .spelt bs → k .keeps x ≡ false → None ≡ ruled k .parsed bs
-  read-unlawful x e h = sym (cond-false _ (Some (k .spelt bs)) None (and-right _ _ (ap (k .keeps) (sym e) ∙ h)))
-
-  pub read-misfit : (length bs ≡ k .width → ⊥) → None ≡ ruled k .parsed bs
-  read-misfit l = sym (cond-false _ (Some (k .spelt bs)) None (and-left _ _ (ne-eqb _ _ l)))

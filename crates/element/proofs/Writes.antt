@@ -1,5 +1,5 @@
 -- What a write at the front of lent memory leaves.
-use mathlib.Core.Path.{_≡_, sym, ap, ap₂, _∙_}
+use mathlib.Core.Path.{_≡_, sym, ap, _∙_}
 use mathlib.Core.Bool.{Bool}
 use mathlib.Core.List.{List, [], _++_}
 use Prim.Native.Nat.{ℕ, _+_, _-_, _≤_, _<_}
@@ -11,13 +11,12 @@ use Rattle.std.proofs.shelf.Lists.{append-nil, append-assoc, take-at, take-rest
 use Rattle.std.proofs.shelf.Tests.{cond-true, cond-false, le-leb, lt-leb}
 use Rattle.element.specs.Bytes.{placed}
 
--- the same, where what is written is known by another term
-module _ (out : List ℕ) {bs cs : List ℕ} (e : bs ≡ cs) where
-  pub fits-as : {r : Bool} {n : ℕ} → length cs ≡ n → r ≡ leb (length bs) (length out) → r ≡ leb n (length out)
-  fits-as l h = h ∙ ap (λ (xs : List ℕ). leb (length xs) (length out)) e ∙ ap (λ (k : ℕ). leb k (length out)) l
-
-  pub placed-as : {last : List ℕ} → last ≡ placed bs out → last ≡ placed cs out
-  placed-as h = h ∙ ap (λ (xs : List ℕ). placed xs out) e
+-- What `place` ensures of bs, for cs of length n, where the two are the same.
+pub placed-as : (out : List ℕ) {bs cs last : List ℕ} {n : ℕ} {r : Bool} → bs ≡ cs → length cs ≡ n → r ≡ leb (length bs) (length out) → last ≡ placed bs out → (r ≡ leb n (length out)) × (last ≡ placed cs out)
+placed-as out e l fits after = (
+  fits ∙ ap (λ (xs : List ℕ). leb (length xs) (length out)) e ∙ ap (λ (k : ℕ). leb k (length out)) l,
+  after ∙ ap (λ (xs : List ℕ). placed xs out) e,
+)
 
 pub placed-room : (bs out : List ℕ) → length bs ≤ length out → placed bs out ≡ bs ++ drop (length bs) out
 placed-room bs out h = cond-true _ _ out (le-leb _ _ h)

@@ -8,21 +8,29 @@ use Rattle.std.specs.declared.option.Option.the-variants.{Some}
 use Rattle.element.specs.Bytes.{ByteString}
 
 -- A table holds plain records of a type R. Each record stands for an element, and `means` answers that element's own
--- record: the record itself where it keeps its type's rule, and bottom where it breaks it (a pair part by part).
+-- record. In the models made by `Ruled` and `pair`, a record that keeps its type's rule stands for itself, and one that
+-- breaks it stands for bottom (a pair part by part).
 pub record Model (R : Type 0) : Type 0 where
-  -- how many bytes an element has on the link
+  -- how many bytes each element has
   pub width : ℕ
+  -- the record of the least element
   pub bottom : R
+  -- the record of the element that a record stands for
   pub means : R → R
+  -- the record of the join of what two records stand for
   pub joined : R → R → R
+  -- the bytes of the element that a record stands for
   pub written : R → List ℕ
-  -- none where the byte string is not lawful
+  -- the record of the element that has these bytes, or none where they are not lawful
   pub parsed : List ℕ → Option R
 
--- All of them go by what the records stand for, so none has a premise on its records.
+-- The laws ask that join and bytes see only what a record stands for: join by `join-sees`, bytes by `read-back` and
+-- `write-back`. So they hold of all records, also of those that break a rule.
 pub record Laws {R : Type 0} (m : Model R) : Type 0 where
+  -- the width is from 1 to 64
   pub width-low : 1 ≤ m .width
   pub width-high : m .width ≤ 64
+  -- join is associative, commutative and idempotent, and bottom is the least
   pub join-assoc : (x y z : R) → m .joined (m .joined x y) z ≡ m .joined x (m .joined y z)
   pub join-comm : (x y : R) → m .joined x y ≡ m .joined y x
   pub join-idem : (x : R) → m .joined x x ≡ m .means x

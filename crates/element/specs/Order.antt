@@ -1,4 +1,5 @@
--- Equality and order of elements, by what their records stand for.
+-- Equality and order of elements, by what their records stand for. `Same` and `AtMost` are records of one fact each, so
+-- that a proof can find their arguments x and y from their types.
 use mathlib.Core.Path.{_≡_}
 use Rattle.element.specs.Model.{Model}
 

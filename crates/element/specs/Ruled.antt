@@ -11,6 +11,7 @@ use Rattle.element.specs.Model.{Model}
 pub record Ruled (R : Type 0) : Type 0 where
   pub width : ℕ
   pub bottom : R
+  -- whether a record keeps the rule
   pub keeps : R → Bool
   pub join : R → R → R
   pub bytes : R → List ℕ
@@ -18,9 +19,11 @@ pub record Ruled (R : Type 0) : Type 0 where
   pub spelt : List ℕ → R
 
 module _ {R : Type 0} (k : Ruled R) where
+  -- What a record stands for: itself where it keeps the rule, and bottom where it breaks it.
   abbrev pub meant : R → R
   meant x = cond (k .keeps x) x (k .bottom)
 
+  -- The model: join and bytes are those of what the records stand for.
   abbrev pub ruled : Model R
   ruled = record {
     width = k .width;

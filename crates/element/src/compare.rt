@@ -14,7 +14,9 @@ pub fn same<E: Element>(x: E, y: E) -> bool
     left == right
 }
 
-// Whether `x` is at most `y`. This is an order with bottom the least, in which join is the least upper bound.
+// Whether `x` is at most `y`: whether their join is what `y` stands for. The clause `order` is no condition on the
+// answer: it is a theorem about the type, which every call brings to its caller. "At most" is an order with bottom the
+// least, in which join is the least upper bound.
 pub fn at_most<E: Element>(x: E, y: E) -> bool
     ensures answer { λ r. ⌜ Decides r (AtMost (E·Element .model) x y) ⌝ }
     ensures order { λ _. ⌜ Order (E·Element .model) ⌝ }

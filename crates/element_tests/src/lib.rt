@@ -132,10 +132,17 @@ mod tests {
         check(Set::new(4, 1).is_none())?;
         check(Set::new(5, 1).is_some())?;
         check(set(4, 1).checked().is_none())?;
-        check_eq(set(4, 1).standing().masks(), (0, 0))?;
-        check_eq(set(5, 1).standing().masks(), (5, 1))?;
+        check_eq(set(4, 1).as_set().masks(), (0, 0))?;
+        check_eq(set(5, 1).as_set().masks(), (5, 1))?;
         check_eq(set(4, 1).join(set(2, 0)).added, 2)?;
         check(same(set(4, 1), set(0, 0)))
+    }
+
+    #[test]
+    fn a_broken_set_is_written_as_the_empty_one() -> Result<(), Fail> {
+        let mut bytes = [9; 16];
+        check(set(4, 1).write(&mut bytes))?;
+        check(bytes == [0; 16])
     }
 
     #[test]
@@ -189,6 +196,23 @@ mod tests {
             Some(card) => check(same(card, known_card())),
             None => Err(Fail::new("the bytes are lawful")),
         }
+    }
+
+    #[test]
+    fn a_card_with_a_broken_set_keeps_its_other_parts() -> Result<(), Fail> {
+        let whole = known_card();
+        let broken = new_card(whole.first, set(4, 1), whole.second.second);
+        let joined = broken.join(Card::bottom());
+        check_eq(joined.first.value, 305000)?;
+        check_eq(joined.second.first.added, 0)?;
+        check(joined.second.second.seats == whole.second.second.seats)?;
+        let mut expected = KNOWN;
+        for i in 14..30 {
+            expected[i] = 0;
+        }
+        let mut bytes = [9; 62];
+        check(broken.write(&mut bytes))?;
+        check(bytes == expected)
     }
 
     #[test]

@@ -12,7 +12,8 @@ pub struct Peak {
 }
 
 impl Peak {
-    fn octets(self) -> [u8; 1]
+    // The one byte of this peak.
+    fn to_bytes(self) -> [u8; 1]
         ensures { λ r. ⌜ r ≡ peak .bytes (meant peak self) ⌝ }
     {
         [self.value]
@@ -37,7 +38,7 @@ pub impl Element for Peak as PeakElement {
     }
 
     fn write(&self, out: &mut [u8]) -> bool {
-        place(&self.octets(), out)
+        place(&self.to_bytes(), out)
     }
 
     fn read(bytes: &[u8]) -> Option<Peak> {

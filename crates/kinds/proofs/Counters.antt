@@ -1,18 +1,18 @@
 -- The counter: the greater of two in each seat, and seats as words of four bytes.
 use mathlib.Core.Path.{_≡_, refl, sym, ap, ap₂, _∙_}
-use mathlib.Core.Bool.{Bool, true, false}
+use mathlib.Core.Bool.{true, false}
 use mathlib.Core.List.{List, [], _∷_, _++_}
-use Prim.Native.Nat.{ℕ, zero, suc, _+_, _*_, _^_, _≤_, _<_, max}
+use Prim.Native.Nat.{ℕ, zero, suc, _+_, _*_, _^_, _<_, max}
 use native.Mathlib.Nat.{max-comm}
 use native.Mathlib.Numerals.{add-one}
 use native.Mathlib.Omega.{arith}
+use borrow.Author.Tests.{both-ways}
 use lib.Dec.{ltb}
 use lib.ListN.{length, getD, set, take, drop, replicate, length-append, length-take, length-drop, take-append-drop}
-use Rattle.std.proofs.shelf.Lists.{joined-more, take-more, take-more-set, take-at, drop-at, drop-drop, append-nil, take-all, drop-all}
+use Rattle.std.proofs.shelf.Lists.{joined-more, take-more, drop-drop, append-nil, take-all, drop-all}
 use Rattle.std.proofs.shelf.Tests.{and-from, and-parts, lt-ltb, ltb-true}
 use Rattle.element.specs.Bytes.{ByteString, be, number}
 use Rattle.kinds.specs.Counters.{counter, counter-of, seated, maxima, words, words-in}
-use Rattle.kinds.specs.declared.counter.Counter.{Counter}
 use Rattle.element.proofs.Numbers.{length-be, number-be, be-spelt, spelt-below, bytes-be, bytes-append, bytes-take, bytes-drop}
 use Rattle.element.proofs.Rules.{Sound}
 
@@ -41,15 +41,15 @@ idem (x ∷ xs) = ap₂ (λ (n : ℕ) (ns : List ℕ). n ∷ ns) (max-self x) (i
 
 least : (n : ℕ) (xs : List ℕ) → seated n xs ≡ true → maxima (replicate n 0) xs ≡ xs
 least zero [] h = refl
-least zero (x ∷ xs) h = absurd (borrow.Author.Tests.both-ways false refl h)
-least (suc n) [] h = absurd (borrow.Author.Tests.both-ways false refl h)
+least zero (x ∷ xs) h = absurd (both-ways false refl h)
+least (suc n) [] h = absurd (both-ways false refl h)
 least (suc n) (x ∷ xs) h = let z : max 0 x ≡ x = omega arith in ap₂ (λ (k : ℕ) (ks : List ℕ). k ∷ ks) z (least n xs (and-parts _ _ h .1))
 
 seated-maxima : (n : ℕ) (xs ys : List ℕ) → seated n xs ≡ true → seated n ys ≡ true → seated n (maxima xs ys) ≡ true
 seated-maxima zero [] ys h k = refl
-seated-maxima zero (x ∷ xs) ys h k = absurd (borrow.Author.Tests.both-ways false refl h)
-seated-maxima (suc n) [] ys h k = absurd (borrow.Author.Tests.both-ways false refl h)
-seated-maxima (suc n) (x ∷ xs) [] h k = absurd (borrow.Author.Tests.both-ways false refl k)
+seated-maxima zero (x ∷ xs) ys h k = absurd (both-ways false refl h)
+seated-maxima (suc n) [] ys h k = absurd (both-ways false refl h)
+seated-maxima (suc n) (x ∷ xs) [] h k = absurd (both-ways false refl k)
 seated-maxima (suc n) (x ∷ xs) (y ∷ ys) h k =
     let p = and-parts _ _ h in
     let q = and-parts _ _ k in
@@ -75,6 +75,13 @@ at-seat (suc i) (x ∷ a) (y ∷ b) h k = ap (λ (ns : List ℕ). max x y ∷ ns
 pub maxima-more : (i : ℕ) (a b : List ℕ) → i < length a → i < length b → set (maxima (take i a) (take i b) ++ drop i a) i (max (getD a i 0) (getD b i 0)) ≡ maxima (take (i + 1) a) (take (i + 1) b) ++ drop (i + 1) a
 maxima-more i a b h k = rw add-one (at-seat i a b h k)
 
+-- the seats after eight turns
+pub maxima-all : (a b : List ℕ) → length a ≡ 8 → length b ≡ 8 → maxima (take 8 a) (take 8 b) ++ drop 8 a ≡ maxima a b
+maxima-all a b h k =
+    ap₂ (λ (xs ys : List ℕ). maxima xs ys ++ drop 8 a) (take-all 8 a (omega arith)) (take-all 8 b (omega arith))
+    ∙ ap (λ (xs : List ℕ). maxima a b ++ xs) (drop-all 8 a (omega arith))
+    ∙ append-nil (maxima a b)
+
 -- words of four bytes
 pub words-more : (xs : List ℕ) (i : ℕ) → i < length xs → words (take (i + 1) xs) ≡ words (take i xs) ++ be 4 (getD xs i 0)
 words-more xs i h = ap words (take-more xs i 0 h) ∙ sym (joined-more (be 4) [] (take i xs) (getD xs i 0))
@@ -91,8 +98,8 @@ words-in-more i bs = rw add-one (at-word i bs)
 
 length-words : (n : ℕ) (xs : List ℕ) → seated n xs ≡ true → length (words xs) ≡ 4 * n
 length-words zero [] h = refl
-length-words zero (x ∷ xs) h = absurd (borrow.Author.Tests.both-ways false refl h)
-length-words (suc n) [] h = absurd (borrow.Author.Tests.both-ways false refl h)
+length-words zero (x ∷ xs) h = absurd (both-ways false refl h)
+length-words (suc n) [] h = absurd (both-ways false refl h)
 length-words (suc n) (x ∷ xs) h =
     let t : seated n xs ≡ true = and-parts (ltb x (2 ^ 32)) (seated n xs) h .1 in
     let r = length-words n xs t in
@@ -105,8 +112,8 @@ bytes-words (x ∷ xs) = bytes-append (be 4 x) (words xs) (bytes-be 4 x) (bytes-
 
 words-back : (n : ℕ) (xs : List ℕ) → seated n xs ≡ true → words-in n (words xs) ≡ xs
 words-back zero [] h = refl
-words-back zero (x ∷ xs) h = absurd (borrow.Author.Tests.both-ways false refl h)
-words-back (suc n) [] h = absurd (borrow.Author.Tests.both-ways false refl h)
+words-back zero (x ∷ xs) h = absurd (both-ways false refl h)
+words-back (suc n) [] h = absurd (both-ways false refl h)
 words-back (suc n) (x ∷ xs) h =
     let p = and-parts _ _ h in
     let small : x < 256 ^ 4 = ltb-true x (2 ^ 32) (p .0) in
@@ -119,13 +126,6 @@ seated-words (suc n) bs o l =
     let a : length (take 4 bs) ≡ 4 = length-take 4 bs ∙ omega arith in
     let d : length (drop 4 bs) ≡ 4 * n = length-drop 4 bs ∙ omega arith in
     and-from _ _ (lt-ltb _ _ (spelt-below 4 (take 4 bs) a (bytes-take 4 bs o))) (seated-words n (drop 4 bs) (bytes-drop 4 bs o) d)
-
--- the seats after eight turns
-pub maxima-all : (a b : List ℕ) → length a ≡ 8 → length b ≡ 8 → maxima (take 8 a) (take 8 b) ++ drop 8 a ≡ maxima a b
-maxima-all a b h k =
-    ap₂ (λ (xs ys : List ℕ). maxima xs ys ++ drop 8 a) (take-all 8 a (omega arith)) (take-all 8 b (omega arith))
-    ∙ ap (λ (xs : List ℕ). maxima a b ++ xs) (drop-all 8 a (omega arith))
-    ∙ append-nil (maxima a b)
 
 words-forth : (n : ℕ) (bs : List ℕ) → ByteString bs → length bs ≡ 4 * n → words (words-in n bs) ≡ bs
 words-forth zero [] o l = refl

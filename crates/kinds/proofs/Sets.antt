@@ -9,7 +9,7 @@ use lib.ListN.{length, take, drop, length-take, length-drop, take-append-drop}
 use Rattle.std.proofs.shelf.Lists.{take-all}
 use Rattle.std.proofs.shelf.Tests.{and-from, lt-ltb, eq-eqb, and-parts, ltb-true, eqb-true}
 use Rattle.element.specs.Bytes.{ByteString, be, number}
-use Rattle.kinds.specs.Sets.{position-set, within}
+use Rattle.kinds.specs.Sets.{position-set, lawful-set}
 use Rattle.kinds.specs.declared.set_record.SetRecord.{SetRecord}
 use Rattle.element.proofs.Numbers.{number-be, be-spelt, bytes-be, bytes-append, bytes-take, bytes-drop}
 use Rattle.element.proofs.Rules.{Sound}
@@ -18,25 +18,25 @@ use Rattle.kinds.proofs.Unions.{or-assoc, or-within}
 same : {x y : SetRecord} → x .added ≡ y .added → x .removed ≡ y .removed → x ≡ y
 same p q = λ i. record { added = p i; removed = q i }
 
-record Within (x : SetRecord) : Type 0 where
+record Lawful (x : SetRecord) : Type 0 where
   pub added : x .added < 2 ^ 64
   pub removed : x .removed < 2 ^ 64
   pub rule : bitOr (x .added) (x .removed) ≡ x .added
 
-parts : (x : SetRecord) → within x ≡ true → Within x
+parts : (x : SetRecord) → lawful-set x ≡ true → Lawful x
 parts x h =
     let p = and-parts _ _ h in
     let q = and-parts _ _ (p .1) in
     record { added = ltb-true _ _ (p .0); removed = ltb-true _ _ (q .0); rule = eqb-true _ _ (q .1) }
 
-keeps-join : (x y : SetRecord) → within x ≡ true → within y ≡ true → within (position-set .join x y) ≡ true
+keeps-join : (x y : SetRecord) → lawful-set x ≡ true → lawful-set y ≡ true → lawful-set (position-set .join x y) ≡ true
 keeps-join x y h k =
     let p = parts x h in
     let q = parts y k in
     and-from _ _ (lt-ltb _ _ (or-lt 64 _ _ (p .added) (q .added)))
     (and-from _ _ (lt-ltb _ _ (or-lt 64 _ _ (p .removed) (q .removed))) (eq-eqb _ _ (or-within _ _ _ _ (p .rule) (q .rule))))
 
-back : (x : SetRecord) → within x ≡ true → position-set .spelt (position-set .bytes x) ≡ x
+back : (x : SetRecord) → lawful-set x ≡ true → position-set .spelt (position-set .bytes x) ≡ x
 back x h = let p = parts x h in same (number-be 8 (x .added) (p .added)) (number-be 8 (x .removed) (p .removed))
 
 forth : (bs : List ℕ) → ByteString bs → length bs ≡ 16 → position-set .bytes (position-set .spelt bs) ≡ bs

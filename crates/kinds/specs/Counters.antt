@@ -9,6 +9,7 @@ use Rattle.element.specs.Bytes.{be, number}
 use Rattle.element.specs.Ruled.{Ruled}
 use Rattle.kinds.specs.declared.counter.Counter.{Counter}
 
+-- The record of these seats.
 abbrev pub counter-of : List ℕ → Counter
 counter-of xs = record { seats = xs }
 
@@ -25,10 +26,11 @@ maxima [] ys = []
 maxima (x ∷ xs) [] = []
 maxima (x ∷ xs) (y ∷ ys) = max x y ∷ maxima xs ys
 
--- Four bytes for each seat, and the n seats that bytes spell.
+-- The bytes of all seats, four for each.
 abbrev pub words : List ℕ → List ℕ
 words xs = each (be 4) xs
 
+-- The n seats that bytes spell, four bytes for each.
 abbrev pub words-in : ℕ → List ℕ → List ℕ
 words-in zero bs = []
 words-in (suc n) bs = number (take 4 bs) ∷ words-in n (drop 4 bs)

@@ -4,10 +4,12 @@ ghost use mathlib.Core.Path.{_≡_};
 ghost use lib.ListN.{length};
 ghost use Rattle.kinds.specs.Counters.{counter, seated, maxima, words, words-in};
 ghost use Rattle.element.specs.Ruled.{ruled};
-use crate::integers::word;
+use crate::integers::u32_from;
 use element::Element;
 use element::place;
 
+// The clauses `rule` below say that an array of eight u32, as the machine holds it, keeps the rule of a counter: it has
+// eight seats of 32 bits each. So every `Counter` stands for itself.
 #[derive(Clone, Copy)]
 pub struct Counter {
     pub seats: [u32; 8],
@@ -26,7 +28,7 @@ fn greater(a: &[u32; 8], b: &[u32; 8]) -> [u32; 8]
 }
 
 // The bytes of the seats, four for each.
-fn octets(seats: &[u32; 8]) -> [u8; 32]
+fn to_bytes(seats: &[u32; 8]) -> [u8; 32]
     ensures value { λ r. ⌜ r ≡ words (now (seats .entry)) ⌝ }
     ensures rule { λ _. ⌜ seated 8 (now (seats .entry)) ≡ true ⌝ }
 {
@@ -45,7 +47,7 @@ fn seats_in(bytes: &[u8]) -> [u32; 8]
 {
     let mut seats = [0; 8];
     for i in 0..8 {
-        seats[i] = word(&bytes[4 * i..4 * i + 4]);
+        seats[i] = u32_from(&bytes[4 * i..4 * i + 4]);
     }
     seats
 }
@@ -68,7 +70,7 @@ pub impl Element for Counter as CounterElement {
     }
 
     fn write(&self, out: &mut [u8]) -> bool {
-        place(&octets(&self.seats), out)
+        place(&to_bytes(&self.seats), out)
     }
 
     fn read(bytes: &[u8]) -> Option<Counter> {

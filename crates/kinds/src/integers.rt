@@ -4,7 +4,7 @@ ghost use lib.ListN.{length};
 ghost use Rattle.element.specs.Bytes.{number};
 
 // The number that four bytes spell.
-pub(crate) fn word(b: &[u8]) -> u32
+pub(crate) fn u32_from(b: &[u8]) -> u32
     requires { ⌜ length (now b) ≡ 4 ⌝ }
     ensures { λ r. ⌜ r ≡ number (now (b .entry)) ⌝ }
 {
@@ -12,7 +12,7 @@ pub(crate) fn word(b: &[u8]) -> u32
 }
 
 // The number that eight bytes spell.
-pub(crate) fn long(b: &[u8]) -> u64
+pub(crate) fn u64_from(b: &[u8]) -> u64
     requires { ⌜ length (now b) ≡ 8 ⌝ }
     ensures { λ r. ⌜ r ≡ number (now (b .entry)) ⌝ }
 {

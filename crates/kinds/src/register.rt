@@ -28,7 +28,8 @@ impl Register {
         self.value < other.value
     }
 
-    fn octets(self) -> [u8; 14]
+    // The bytes of this register.
+    fn to_bytes(self) -> [u8; 14]
         ensures { λ r. ⌜ r ≡ register-bytes (meant register self) ⌝ }
     {
         let [s0, s1, s2, s3, s4, s5, s6, s7] = self.stamp.to_be_bytes();
@@ -58,7 +59,7 @@ pub impl Element for Register as RegisterElement {
     }
 
     fn write(&self, out: &mut [u8]) -> bool {
-        place(&self.octets(), out)
+        place(&self.to_bytes(), out)
     }
 
     fn read(bytes: &[u8]) -> Option<Register> {

@@ -3,8 +3,8 @@
 ghost use mathlib.Core.Bool.{true, false};
 ghost use mathlib.Core.Path.{_≡_};
 ghost use lib.Bits.{bitOr};
-ghost use lib.Dec.{eqb};
 ghost use Rattle.std.specs.Options.{Cases as BySome};
+ghost use Rattle.kinds.specs.Masks.{contained};
 
 // 64 positions, bit k of each mask for position k: those that were ever added, and those that were removed since.
 #[derive(Clone, Copy)]
@@ -18,7 +18,7 @@ pub struct Set {
 impl Set {
     // The set of these masks, or none where a removed position was not added.
     pub fn new(added: u64, removed: u64) -> Option<Set>
-        ensures { λ r. ⌜ BySome r (eqb (bitOr added removed) added ≡ false) (λ s. (s .added ≡ added) × (s .removed ≡ removed) × (eqb (bitOr added removed) added ≡ true)) ⌝ }
+        ensures { λ r. ⌜ BySome r (contained added removed ≡ false) (λ s. (s .added ≡ added) × (s .removed ≡ removed) × (contained added removed ≡ true)) ⌝ }
     {
         if added | removed == added {
             Some(Set { added, removed })

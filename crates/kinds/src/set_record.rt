@@ -1,11 +1,10 @@
 // The plain record of a set of mast positions, as tables hold it.
 ghost use mathlib.Core.Bool.{true, false};
 ghost use mathlib.Core.Path.{_≡_};
-ghost use lib.ListN.{length};
 ghost use Rattle.std.specs.Options.{Cases as BySome};
 ghost use Rattle.element.specs.Ruled.{ruled, meant};
-ghost use Rattle.kinds.specs.Sets.{position-set, set-of, within};
-use crate::integers::long;
+ghost use Rattle.kinds.specs.Sets.{position-set, set-of, lawful-set, spelt-set};
+use crate::integers::u64_from;
 use crate::set::Set;
 use element::Element;
 use element::place;
@@ -28,13 +27,13 @@ impl SetRecord {
 
     // The set of this record, or none where it breaks the rule.
     pub fn checked(self) -> Option<Set>
-        ensures { λ r. ⌜ BySome r (within self ≡ false) (λ s. (set-of (s .added) (s .removed) ≡ self) × (within self ≡ true)) ⌝ }
+        ensures { λ r. ⌜ BySome r (lawful-set self ≡ false) (λ s. (set-of (s .added) (s .removed) ≡ self) × (lawful-set self ≡ true)) ⌝ }
     {
         Set::new(self.added, self.removed)
     }
 
-    // The set that this record stands for: the empty one where it breaks the rule.
-    pub fn standing(self) -> Set
+    // The set that this record stands for, the empty one where it breaks the rule.
+    pub fn as_set(self) -> Set
         ensures { λ r. ⌜ set-of (r .added) (r .removed) ≡ meant position-set self ⌝ }
     {
         match self.checked() {
@@ -43,20 +42,21 @@ impl SetRecord {
         }
     }
 
-    // The record that 16 bytes spell, lawful or not.
+    // The record that 16 bytes spell, lawful or not, or none where there are not 16.
     fn spelt(bytes: &[u8]) -> Option<SetRecord>
-        ensures { λ r. ⌜ BySome r (length (now (bytes .entry)) ≡ 16 → ⊥) (λ x. (x ≡ position-set .spelt (now (bytes .entry))) × (length (now (bytes .entry)) ≡ 16)) ⌝ }
+        ensures { λ r. ⌜ r ≡ spelt-set (now (bytes .entry)) ⌝ }
     {
         if bytes.len() != 16 {
             return None;
         }
         Some(SetRecord {
-            added: long(&bytes[0..8]),
-            removed: long(&bytes[8..16]),
+            added: u64_from(&bytes[0..8]),
+            removed: u64_from(&bytes[8..16]),
         })
     }
 
-    fn octets(self) -> [u8; 16]
+    // The bytes of this record as it is, lawful or not.
+    fn to_bytes(self) -> [u8; 16]
         ensures { λ r. ⌜ r ≡ position-set .bytes self ⌝ }
     {
         let mut bytes = [0; 16];
@@ -77,7 +77,7 @@ pub impl Element for SetRecord as SetElement {
     }
 
     fn join(self, other: SetRecord) -> SetRecord {
-        SetRecord::of(self.standing().join(other.standing()))
+        SetRecord::of(self.as_set().join(other.as_set()))
     }
 
     fn width() -> usize {
@@ -85,7 +85,7 @@ pub impl Element for SetRecord as SetElement {
     }
 
     fn write(&self, out: &mut [u8]) -> bool {
-        place(&SetRecord::of(self.standing()).octets(), out)
+        place(&SetRecord::of(self.as_set()).to_bytes(), out)
     }
 
     fn read(bytes: &[u8]) -> Option<SetRecord> {

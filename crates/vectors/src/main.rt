@@ -1,7 +1,13 @@
 // Runs digest vectors: for each line of standard input, a byte string in hexadecimal, prints its fnv, its sum and
-// its length. The expected output holds the published digests.
+// its length.
+//
+// The fnv of the first 25 lines are published vectors: of the empty string, of single letters and of the other prefixes
+// of "foobar", each of these also with a zero byte behind it, and of "chongo was here!\n". The fnv of the other lines,
+// and all sums, come from an independent computation. The last two lines are not hexadecimal.
+ghost use mathlib.Core.Path.{_≡_};
 ghost use Prim.Native.Nat.{_<_};
 ghost use Rattle.std.specs.Options.{Cases as BySome};
+ghost use Rattle.vectors.specs.Hex.{hex-value};
 use digest::Digest;
 use digest::Fnv;
 use digest::FnvDigest;
@@ -11,9 +17,10 @@ use std::alloc::AllocError;
 use std::alloc::Global;
 use std::error::AnyError;
 
-// The value of a hexadecimal digit.
+// The value of a hexadecimal digit, or none where `b` is no such digit.
 fn digit(b: u8) -> Option<u8>
-    ensures { λ r. ⌜ BySome r (Unit {0}) (λ v. v < 16) ⌝ }
+    ensures value { λ r. ⌜ r ≡ hex-value b ⌝ }
+    ensures small { λ r. ⌜ BySome r (Unit {0}) (λ v. v < 16) ⌝ }
 {
     match b {
         b'0'..=b'9' => Some(b - b'0'),

@@ -1,10 +1,9 @@
-use mathlib.Core.Path.{_≡_, sym, ap, ap₂, subst, _∙_}
+use mathlib.Core.Path.{_≡_, sym, ap, ap₂, _∙_}
 use mathlib.Core.List.{List, [], _∷_, _++_}
-use mathlib.Core.Bool.{true}
 use Prim.Native.Nat.{ℕ, _+_, _*_, _-_}
 use native.Mathlib.Omega.{arith}
 use borrow.Author.Needs.{needs}
-use lib.ListN.{length, take, drop}
+use lib.ListN.{take, drop}
 use Rattle.std.proofs.shelf.Lists.{take-all, take-more-set}
 use Rattle.element.specs.Bytes.{number}
 use Rattle.kinds.specs.Counters.{words-in, seated}
@@ -17,9 +16,9 @@ loop-i-again c =
     let i = c .loop-i .i in
     let bs = c .args .bytes .now in
     let n : (4 * i + 4) - 4 * i ≡ 4 = omega arith in
-    let w = c .word .ensures ∙ ap (λ (k : ℕ). number (take k (drop (4 * i) bs))) n in (
+    let w = c .u32-from .ensures ∙ ap (λ (k : ℕ). number (take k (drop (4 * i) bs))) n in (
       search needs,
-      take-more-set (c .loop-i .seats) i (c .word .result) (omega arith)
+      take-more-set (c .loop-i .seats) i (c .u32-from .result) (omega arith)
           ∙ ap₂ (λ (xs : List ℕ) (x : ℕ). xs ++ x ∷ []) (c .loop-i .inv .1) w
           ∙ sym (words-in-more i bs),
     )

@@ -3,7 +3,7 @@ use borrow.Author.Needs.{needs}
 use borrow.Author.Tests.{ltb-true, ltb-false}
 use Rattle.std.proofs.shelf.Ways.{tells}
 use Rattle.kinds.specs.Registers.{register}
-use Rattle.element.proofs.Rules.{read-lawful, read-misfit}
+use Rattle.element.proofs.Rules.{read-lawful}
 use Rattle.kinds.proofs.register.RegisterElement.read.Needs as need
 
 pub returns : need.returns

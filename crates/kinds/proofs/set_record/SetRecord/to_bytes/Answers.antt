@@ -4,7 +4,7 @@ use Prim.Native.Nat.{ℕ}
 use borrow.Rule.Slice.PartMut.{putMid}
 use lib.ListN.{replicate}
 use Rattle.element.proofs.Numbers.{eight-of}
-use Rattle.kinds.proofs.set_record.SetRecord.octets.Needs as need
+use Rattle.kinds.proofs.set_record.SetRecord.to_bytes.Needs as need
 
 pub returns : need.returns
 returns c =

@@ -1,9 +1,9 @@
 use mathlib.Core.Path.{_≡_, sym, ap, ap₂, _∙_}
-use mathlib.Core.List.{List, [], _∷_, _++_}
-use Prim.Native.Nat.{ℕ, _+_, _*_, _-_, _/_, _%_, _≤_}
+use mathlib.Core.List.{List, _++_}
+use Prim.Native.Nat.{ℕ, _+_, _*_, _≤_}
 use native.Mathlib.Omega.{arith}
 use borrow.Author.Needs.{needs}
-use lib.ListN.{length, getD, take}
+use lib.ListN.{length, getD}
 use borrow.Rule.Slice.PartMut.{putMid}
 use Rattle.std.proofs.shelf.Lists.{take-all, places}
 use Rattle.std.proofs.shelf.Parts.{take-putMid}
@@ -11,7 +11,7 @@ use Rattle.element.specs.Bytes.{be}
 use Rattle.kinds.specs.Counters.{words}
 use Rattle.kinds.proofs.Counters.{seated-from, words-more}
 use Rattle.element.proofs.Numbers.{four-of}
-use Rattle.kinds.proofs.counter.octets.Needs as need
+use Rattle.kinds.proofs.counter.to_bytes.Needs as need
 
 length-put : (a k : ℕ) (xs ys : List ℕ) → a + k ≤ length xs → length ys ≡ k → length (putMid a k xs ys) ≡ length xs
 length-put a k xs ys h l = search (needs, places)
