@@ -4,6 +4,7 @@ use digest::Fnv;
 use digest::FnvDigest;
 use element::Element;
 use element::PairElement;
+use element::Refusal;
 use element::join_at;
 use kinds::Card;
 use kinds::Counter;
@@ -17,6 +18,7 @@ use kinds::SetRecord;
 use kinds::new_card;
 use std::alloc::AllocError;
 use std::alloc::Global;
+use tree::build;
 
 pub const SITES: usize = 4;
 
@@ -75,4 +77,11 @@ pub fn digest_of(heap: Global, table: &[Card; SITES]) -> Result<u64, AllocError>
         bytes.extend_from_slice(&part)?;
     }
     Ok(Fnv.digest(bytes.as_slice()))
+}
+
+// The root of the digest tree under fnv, which is at place 1 of the digest table.
+pub fn root_of(table: &[Card; SITES]) -> Result<u64, Refusal> {
+    let mut digests = [0; 2 * SITES];
+    build(&Fnv, table, &mut digests)?;
+    Ok(digests[1])
 }

@@ -7,6 +7,7 @@ use copies::digest_of;
 use copies::joined;
 use copies::laptop_copy;
 use copies::office_copy;
+use copies::root_of;
 use element::PairElement;
 use element::at_most;
 use element::same;
@@ -37,6 +38,30 @@ fn at_most_everywhere(part: &[Card; SITES], whole: &[Card; SITES]) -> bool {
         }
     }
     true
+}
+
+// The digests by which two copies are compared: of all their bytes, and at the root of their digest trees.
+fn print_digests(
+    rt: &LibcRuntime,
+    when: &str,
+    office: &[Card; SITES],
+    laptop: &[Card; SITES],
+) -> Result<(), AnyError> {
+    let heap = rt.alloc();
+    let here = digest_of(heap, office)?;
+    let there = digest_of(heap, laptop)?;
+    println!(
+        rt,
+        "fnv {when}: {here:016x} at the office, {there:016x} on the laptop"
+    )?;
+    let (Ok(here), Ok(there)) = (root_of(office), root_of(laptop)) else {
+        return Err("the tables do not fit".into());
+    };
+    println!(
+        rt,
+        "roots {when}: {here:016x} at the office, {there:016x} on the laptop"
+    )?;
+    Ok(())
 }
 
 fn run(rt: &LibcRuntime) -> Result<(), AnyError> {
@@ -72,19 +97,8 @@ fn run(rt: &LibcRuntime) -> Result<(), AnyError> {
         "position 1 of site 1 stays removed: {}",
         here[1].second.first.removed == 2
     )?;
-    let heap = rt.alloc();
-    let before = digest_of(heap, &office)?;
-    println!(
-        rt,
-        "fnv before: {before:016x} at the office, {:016x} on the laptop",
-        digest_of(heap, &laptop)?
-    )?;
-    let after = digest_of(heap, &here)?;
-    println!(
-        rt,
-        "fnv after:  {after:016x} at the office, {:016x} on the laptop",
-        digest_of(heap, &there)?
-    )?;
+    print_digests(rt, "before", &office, &laptop)?;
+    print_digests(rt, "after", &here, &there)?;
     Ok(())
 }
 

@@ -1,12 +1,10 @@
--- The two digests, each over all bytes of its input.
+-- The two digests, each a fold over the bytes of its input, from the first to the last.
 use mathlib.Core.List.{List}
-use Prim.Native.Nat.{ℕ, _*_, _%_, _^_}
+use Prim.Native.Nat.{ℕ, _+_, _*_, _%_, _^_}
 use lib.Bits.{bitXor}
 use Rattle.std.specs.Iters.{folded}
-use Rattle.std.specs.shelf.Lists.{sum as plain-sum}
 
--- FNV-1a of 64 bits, from the first byte to the last: exclusive or with the byte, then multiplication modulo 2 to the
--- power 64.
+-- FNV-1a of 64 bits: exclusive or with the byte, then multiplication modulo 2 to the power 64.
 abbrev pub fnv-start : ℕ
 fnv-start = 0xcbf29ce484222325
 
@@ -18,4 +16,4 @@ fnv bs = folded fnv-step fnv-start bs
 
 -- The sum of the bytes, modulo 65,536.
 abbrev pub sum : List ℕ → ℕ
-sum bs = plain-sum bs % 65536
+sum bs = folded (λ total b. total + b) 0 bs % 65536
