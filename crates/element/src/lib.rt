@@ -19,6 +19,8 @@ pub use pair::Beside;
 pub use pair::Pair;
 pub use pair::PairElement;
 pub use refusal::Refusal;
+pub use refusal::RefusalDebug;
+pub use refusal::RefusalPartialEq;
 pub use table::join_at;
 
 // An element type, by plain records: a table holds any record of the type, and each stands for an element.

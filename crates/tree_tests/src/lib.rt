@@ -7,6 +7,8 @@ mod tests {
     use digest::SumDigest;
     use element::Element;
     use element::Refusal;
+    use element::RefusalDebug;
+    use element::RefusalPartialEq;
     use kinds::Register;
     use kinds::RegisterElement;
     use std::test::*;
