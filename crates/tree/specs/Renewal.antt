@@ -1,14 +1,18 @@
 -- The digest table after one key has changed: the digest of its range is renewed, and then of the ranges above it,
 -- upward, from what the tables hold.
 use mathlib.Core.Path.{_≡_}
-use mathlib.Core.Bool.{true, cond}
+use mathlib.Core.Bool.{true, cond, _&&_}
 use mathlib.Core.List.{List}
 use Prim.Native.Nat.{ℕ, zero, suc, _+_, _*_, _/_, _<_}
-use lib.Dec.{eqb}
+use lib.Dec.{eqb, ltb}
 use lib.ListN.{length, getD, set}
+use Rattle.std.specs.declared.result.Result.{Result}
+use Rattle.std.specs.declared.result.Result.the-variants.{Ok, Err}
 use Rattle.element.specs.Model.{Model}
+use Rattle.element.specs.declared.refusal.Refusal.{Refusal}
+use Rattle.element.specs.declared.refusal.Refusal.the-variants.{Size, Key}
 use Rattle.tree.specs.Ranges.{Covers}
-use Rattle.tree.specs.Sizes.{sized}
+use Rattle.tree.specs.Sizes.{sized, fit}
 use Rattle.tree.specs.Tree.{leaf-bytes, node-bytes, tree}
 
 module _ (h : List ℕ → ℕ) where
@@ -24,6 +28,13 @@ module _ (h : List ℕ → ℕ) where
 module _ {R : Type 0} (m : Model R) (h : List ℕ → ℕ) (es : List R) (k : ℕ) where
   unfoldable pub renewed : List ℕ → List ℕ
   renewed ds = climbed h 12 ((length es + k) / 2) (set ds (length es + k) (h (leaf-bytes m (getD es k (m .bottom)))))
+
+  -- What a renewal answers, and what it leaves in the digest table.
+  abbrev pub renew-answer : List ℕ → Result (Unit {0}) Refusal
+  renew-answer ds = cond (fit (length es) (length ds)) (cond (ltb k (length es)) (Ok tt) (Err Key)) (Err Size)
+
+  abbrev pub renew-after : List ℕ → List ℕ
+  renew-after ds = cond (fit (length es) (length ds) && ltb k (length es)) (renewed ds) ds
 
   -- That is the rule: the range of the key has its element's digest, each range above has that of its halves in the
   -- table as it is now, and no other place has changed.

@@ -7,11 +7,15 @@ use Prim.Native.Nat.{ℕ, zero, suc, _+_, _-_, _*_, _≤_, _<_}
 use lib.Dec.{eqb, leb}
 use lib.ListN.{length, getD}
 use Rattle.std.specs.Iters.{counting}
+use Rattle.std.specs.declared.result.Result.{Result}
+use Rattle.std.specs.declared.result.Result.the-variants.{Ok, Err}
 use Rattle.element.specs.Bytes.{be}
 use Rattle.element.specs.Model.{Model}
 use Rattle.element.specs.Order.{Same}
+use Rattle.element.specs.declared.refusal.Refusal.{Refusal}
+use Rattle.element.specs.declared.refusal.Refusal.the-variants.{Size}
 use Rattle.tree.specs.Ranges.{Inside, Covers}
-use Rattle.tree.specs.Sizes.{sized}
+use Rattle.tree.specs.Sizes.{sized, fit}
 
 -- What is digested of a range with two halves, by their digests.
 abbrev pub node-bytes : ℕ → ℕ → List ℕ
@@ -44,6 +48,13 @@ module _ {R : Type 0} (m : Model R) (h : List ℕ → ℕ) (es : List R) where
 
   unfoldable pub tree : List ℕ
   tree = map place-of (counting 0 (2 * length es))
+
+  -- What a build over a digest table answers, and what it leaves there.
+  abbrev pub build-answer : List ℕ → Result (Unit {0}) Refusal
+  build-answer ds = cond (fit (length es) (length ds)) (Ok tt) (Err Size)
+
+  abbrev pub build-after : List ℕ → List ℕ
+  build-after ds = cond (fit (length es) (length ds)) tree ds
 
   -- That is Merkle's tree.
   pub record Merkle : Type 0 where

@@ -1,13 +1,9 @@
 // The digest table, built anew.
 ghost use Prim.Native.Nat.{ℕ, _+_, _*_, _≤_, _<_};
-ghost use mathlib.Core.Bool.{cond};
 ghost use mathlib.Core.Path.{_≡_};
 ghost use lib.ListN.{length, getD};
-ghost use Rattle.std.specs.declared.result.Result.the-variants.{Ok, Err};
-ghost use Rattle.element.specs.declared.refusal.Refusal.the-variants.{Size};
 ghost use Rattle.tree.specs.Renewal.{node-in};
-ghost use Rattle.tree.specs.Sizes.{fit};
-ghost use Rattle.tree.specs.Tree.{leaf-bytes, tree, Built, Telling};
+ghost use Rattle.tree.specs.Tree.{leaf-bytes, build-answer, build-after, Built, Telling};
 use crate::digests::leaf;
 use crate::digests::node;
 use crate::size::tables_fit;
@@ -44,8 +40,8 @@ pub fn build<E: Element, D: Digest>(
     elements: &[E],
     digests: &mut [u64],
 ) -> Result<(), Refusal>
-    ensures answer { λ r. ⌜ r ≡ cond (fit (length (now (elements .entry))) (length (now (digests .entry)))) (Ok tt) (Err Size) ⌝ }
-    ensures after { λ _. ⌜ now (digests .exit) ≡ cond (fit (length (now (elements .entry))) (length (now (digests .entry)))) (tree (E·Element .model) (D·Digest .function (now (digest .entry))) (now (elements .entry))) (now (digests .entry)) ⌝ }
+    ensures answer { λ r. ⌜ r ≡ build-answer (E·Element .model) (D·Digest .function (now (digest .entry))) (now (elements .entry)) (now (digests .entry)) ⌝ }
+    ensures after { λ _. ⌜ now (digests .exit) ≡ build-after (E·Element .model) (D·Digest .function (now (digest .entry))) (now (elements .entry)) (now (digests .entry)) ⌝ }
     ensures merkle { λ _. ⌜ Built (E·Element .model) (D·Digest .function (now (digest .entry))) ⌝ }
     ensures tells { λ _. ⌜ Telling (E·Element .model) (D·Digest .function (now (digest .entry))) ⌝ }
 {

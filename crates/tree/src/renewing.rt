@@ -1,13 +1,8 @@
 // The digest table, renewed after a key has changed.
 ghost use Prim.Native.Nat.{_+_, _*_, _<_};
-ghost use mathlib.Core.Bool.{cond, _&&_};
 ghost use mathlib.Core.Path.{_≡_};
-ghost use lib.Dec.{ltb};
 ghost use lib.ListN.{length};
-ghost use Rattle.std.specs.declared.result.Result.the-variants.{Ok, Err};
-ghost use Rattle.element.specs.declared.refusal.Refusal.the-variants.{Size, Key};
-ghost use Rattle.tree.specs.Renewal.{climbed, renewed, Renewing, Stays};
-ghost use Rattle.tree.specs.Sizes.{fit};
+ghost use Rattle.tree.specs.Renewal.{climbed, renew-answer, renew-after, Renewing, Stays};
 use crate::digests::leaf;
 use crate::digests::node;
 use crate::size::tables_fit;
@@ -35,8 +30,8 @@ pub fn renew<E: Element, D: Digest>(
     digests: &mut [u64],
     key: usize,
 ) -> Result<(), Refusal>
-    ensures answer { λ r. ⌜ r ≡ cond (fit (length (now (elements .entry))) (length (now (digests .entry)))) (cond (ltb key (length (now (elements .entry)))) (Ok tt) (Err Key)) (Err Size) ⌝ }
-    ensures after { λ _. ⌜ now (digests .exit) ≡ cond (fit (length (now (elements .entry))) (length (now (digests .entry))) && ltb key (length (now (elements .entry)))) (renewed (E·Element .model) (D·Digest .function (now (digest .entry))) (now (elements .entry)) key (now (digests .entry))) (now (digests .entry)) ⌝ }
+    ensures answer { λ r. ⌜ r ≡ renew-answer (E·Element .model) (D·Digest .function (now (digest .entry))) (now (elements .entry)) key (now (digests .entry)) ⌝ }
+    ensures after { λ _. ⌜ now (digests .exit) ≡ renew-after (E·Element .model) (D·Digest .function (now (digest .entry))) (now (elements .entry)) key (now (digests .entry)) ⌝ }
     ensures rule { λ _. ⌜ Renewing (E·Element .model) (D·Digest .function (now (digest .entry))) ⌝ }
     ensures stays { λ _. ⌜ Stays (E·Element .model) (D·Digest .function (now (digest .entry))) ⌝ }
 {
