@@ -20,7 +20,7 @@ use std::alloc::AllocError;
 use std::alloc::Global;
 use tree::build;
 
-pub const SITES: usize = 4;
+pub(crate) const SITES: usize = 4;
 
 // The card of a height in centimetres, with its stamp and office, positions added and removed, and field samples.
 fn entry(height: (u64, u16, u32), positions: (u64, u64), seats: [u32; 8]) -> Card {
@@ -38,7 +38,7 @@ fn entry(height: (u64, u16, u32), positions: (u64, u64), seats: [u32; 8]) -> Car
 }
 
 // The office entered the height of site 0 above sea level, and does not know of site 3.
-pub fn office_copy() -> [Card; SITES] {
+pub(crate) fn office_copy() -> [Card; SITES] {
     [
         entry((100, 7, 41250), (1, 0), [12, 0, 0, 0, 0, 0, 0, 0]),
         entry((101, 7, 2480), (7, 0), [5, 0, 0, 0, 0, 0, 0, 0]),
@@ -49,7 +49,7 @@ pub fn office_copy() -> [Card; SITES] {
 
 // The laptop corrected the height of site 0, removed position 1 of site 1, counted samples in the field and found a
 // new mast.
-pub fn laptop_copy() -> [Card; SITES] {
+pub(crate) fn laptop_copy() -> [Card; SITES] {
     [
         entry((120, 7, 3050), (1, 0), [12, 0, 0, 0, 0, 0, 0, 0]),
         entry((101, 7, 2480), (7, 2), [5, 0, 0, 9, 0, 0, 0, 0]),
@@ -59,7 +59,7 @@ pub fn laptop_copy() -> [Card; SITES] {
 }
 
 // `into`, with `from` joined into it key by key.
-pub fn joined(into: [Card; SITES], from: &[Card; SITES]) -> [Card; SITES] {
+pub(crate) fn joined(into: [Card; SITES], from: &[Card; SITES]) -> [Card; SITES] {
     let mut table = into;
     for key in 0..SITES {
         let _ = join_at(&mut table, key, from[key]);
@@ -69,7 +69,7 @@ pub fn joined(into: [Card; SITES], from: &[Card; SITES]) -> [Card; SITES] {
 
 // The fnv of the bytes of all cards, key by key. A card has 62 bytes: 14 of the height, 16 of the positions and 32 of
 // the samples.
-pub fn digest_of(heap: Global, table: &[Card; SITES]) -> Result<u64, AllocError> {
+pub(crate) fn digest_of(heap: Global, table: &[Card; SITES]) -> Result<u64, AllocError> {
     let mut bytes = Vec::new(heap);
     for card in table {
         let mut part = [0; 62];
@@ -80,7 +80,7 @@ pub fn digest_of(heap: Global, table: &[Card; SITES]) -> Result<u64, AllocError>
 }
 
 // The root of the digest tree under fnv, which is at place 1 of the digest table.
-pub fn root_of(table: &[Card; SITES]) -> Result<u64, Refusal> {
+pub(crate) fn root_of(table: &[Card; SITES]) -> Result<u64, Refusal> {
     let mut digests = [0; 2 * SITES];
     build(&Fnv, table, &mut digests)?;
     Ok(digests[1])

@@ -34,7 +34,7 @@ fn print_card(rt: &LibcRuntime, key: usize, card: &Card) -> io::Result<()> {
     println!(rt, "")
 }
 
-pub fn print_table(rt: &LibcRuntime, title: &str, table: &[Card; SITES]) -> io::Result<()> {
+pub(crate) fn print_table(rt: &LibcRuntime, title: &str, table: &[Card; SITES]) -> io::Result<()> {
     println!(rt, "{title}")?;
     for (key, card) in table.iter().enumerate() {
         print_card(rt, key, card)?;
