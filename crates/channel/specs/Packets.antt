@@ -1,0 +1,19 @@
+-- Packets: frames as a channel keeps them, in memory of their own.
+use mathlib.Core.List.{List, map}
+use Prim.Native.Nat.{ℕ}
+use lib.ListN.{take}
+use Rattle.std.specs.Options.{mapped}
+use Rattle.std.specs.declared.option.Option.{Option}
+use Rattle.channel.specs.declared.packet.Packet.{Packet}
+
+-- The frame that a packet holds.
+abbrev pub body : Packet → List ℕ
+body p = take (p .len) (p .bytes)
+
+-- The frames that the first n of 64 places hold, the oldest first.
+abbrev pub waiting-in : List Packet → ℕ → List (List ℕ)
+waiting-in ps n = map body (take n ps)
+
+-- What a take answered, as a frame.
+abbrev pub arrived : Option Packet → Option (List ℕ)
+arrived o = mapped body o
