@@ -1,23 +1,25 @@
 -- The frames that wait in the first of 64 places.
 use mathlib.Core.Path.{_≡_, sym, ap, _∙_}
-use mathlib.Core.Bool.{true, false, _&&_}
+use mathlib.Core.Bool.{true, false}
 use mathlib.Core.List.{List, [], _∷_, _++_, map}
-use mathlib.Core.Logic.{⊎-elim}
 use Prim.Native.Nat.{ℕ, zero, suc, _+_, _-_, _≤_, _<_}
 use native.Mathlib.Numerals.{add-one}
 use native.Mathlib.Omega.{arith}
-use lib.Dec.{ltb, leb}
 use lib.ListN.{length, getD, set, take, drop}
 use Rattle.std.proofs.shelf.Lists.{take-more-set, map-push, map-append, append-assoc, drop-drop, length-drop, take-all, take-map, drop-map, length-map, length-take-le, take-append-le, getD-take, getD-map}
 use Rattle.std.proofs.shelf.Tests.{cond-true, cond-false}
 use Rattle.std.proofs.shelf.Ways.{tells}
 use Rattle.channel.specs.declared.packet.Packet.{Packet}
+use Rattle.channel.specs.declared.places.Places.{Places}
 use Rattle.channel.specs.Links.{Carried}
-use Rattle.channel.specs.Packets.{body, waiting-in}
-use Rattle.channel.specs.Queues.{after-put}
+use Rattle.channel.specs.Packets.{body, waiting-in, waits}
+use Rattle.channel.specs.Queues.{kept, after-put}
 
-pub length-waiting : (ps : List Packet) (n : ℕ) → n ≤ length ps → length (waiting-in ps n) ≡ n
+length-waiting : (ps : List Packet) (n : ℕ) → n ≤ length ps → length (waiting-in ps n) ≡ n
 length-waiting ps n h = length-map (take n ps) body ∙ length-take-le n ps h
+
+pub as-many : (p : Places) → length (waits p) ≡ p .waiting
+as-many p = length-waiting (p .packets) (p .waiting) (omega arith)
 
 pub at-place : (ps : List Packet) (n at : ℕ) (d : Packet) → at < n → n ≤ length ps → body (getD ps at d) ≡ getD (waiting-in ps n) at []
 at-place ps n at d h k =
@@ -27,19 +29,19 @@ at-place ps n at d h k =
 pub put-in : (ps : List Packet) (n : ℕ) (p : Packet) (f : List ℕ) → n < 64 → n < length ps → Carried f → body p ≡ f → waiting-in (set ps n p) (n + 1) ≡ after-put (waiting-in ps n) f
 put-in ps n p f h k c e =
     let w = length-waiting ps n (omega arith) in
-    let ok : (ltb (length (waiting-in ps n)) 64 && (leb 1 (length f) && leb (length f) 71)) ≡ true = grind (arith, tells) in
+    let ok : kept (waiting-in ps n) f ≡ true = grind (arith, tells) in
     ap (map body) (take-more-set ps n p k) ∙ map-push body (take n ps) p ∙ ap (λ (g : List ℕ). waiting-in ps n ++ (g ∷ [])) e ∙ sym (cond-true _ _ _ ok)
 
 pub put-full : (ps : List Packet) (n : ℕ) (f : List ℕ) → n ≡ 64 → n ≤ length ps → waiting-in ps n ≡ after-put (waiting-in ps n) f
 put-full ps n f h k =
     let w = length-waiting ps n k in
-    let no : (ltb (length (waiting-in ps n)) 64 && (leb 1 (length f) && leb (length f) 71)) ≡ false = grind (arith, tells) in
+    let no : kept (waiting-in ps n) f ≡ false = grind (arith, tells) in
     sym (cond-false _ _ _ no)
 
 pub put-lost : (ws : List (List ℕ)) (f : List ℕ) → (Carried f → ⊥) → ws ≡ after-put ws f
 put-lost ws f h =
     let not-carried : 1 ≤ length f → length f ≤ 71 → ⊥ = λ a b. h (record { some = a; few = b }) in
-    let no : (ltb (length ws) 64 && (leb 1 (length f) && leb (length f) 71)) ≡ false = grind (arith, tells) in
+    let no : kept ws f ≡ false = grind (arith, tells) in
     sym (cond-false _ _ _ no)
 
 -- A list from which an element was taken and set behind all others, cut to one less.

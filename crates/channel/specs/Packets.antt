@@ -5,6 +5,7 @@ use lib.ListN.{take}
 use Rattle.std.specs.Options.{mapped}
 use Rattle.std.specs.declared.option.Option.{Option}
 use Rattle.channel.specs.declared.packet.Packet.{Packet}
+use Rattle.channel.specs.declared.places.Places.{Places}
 
 -- The frame that a packet holds.
 abbrev pub body : Packet → List ℕ
@@ -13,6 +14,10 @@ body p = take (p .len) (p .bytes)
 -- The frames that the first n of 64 places hold, the oldest first.
 abbrev pub waiting-in : List Packet → ℕ → List (List ℕ)
 waiting-in ps n = map body (take n ps)
+
+-- The frames that wait, the oldest first.
+abbrev pub waits : Places → List (List ℕ)
+waits p = waiting-in (p .packets) (p .waiting)
 
 -- What a take answered, as a frame.
 abbrev pub arrived : Option Packet → Option (List ℕ)

@@ -1,6 +1,6 @@
 -- The in-order channel: 64 places, first in, first out.
 use mathlib.Core.Path.{_≡_}
-use mathlib.Core.Bool.{cond, _&&_}
+use mathlib.Core.Bool.{Bool, cond, _&&_}
 use mathlib.Core.List.{List, [], _∷_, _++_}
 use Prim.Native.Nat.{ℕ}
 use lib.Dec.{leb, ltb}
@@ -9,9 +9,13 @@ use Rattle.std.specs.declared.option.Option.{Option}
 use Rattle.std.specs.declared.option.Option.the-variants.{Some, None}
 use Rattle.channel.specs.Links.{Link}
 
--- What waits after a put: the frame joins at the end, or is lost where 64 wait or it cannot be carried.
+-- A put keeps frame f where fewer than 64 wait and it can be carried; else f is lost.
+abbrev pub kept : List (List ℕ) → List ℕ → Bool
+kept ws f = ltb (length ws) 64 && (leb 1 (length f) && leb (length f) 71)
+
+-- What waits after a put: a frame that is kept joins at the end.
 abbrev pub after-put : List (List ℕ) → List ℕ → List (List ℕ)
-after-put ws f = cond (ltb (length ws) 64 && (leb 1 (length f) && leb (length f) 71)) (ws ++ (f ∷ [])) ws
+after-put ws f = cond (kept ws f) (ws ++ (f ∷ [])) ws
 
 -- The first that waits.
 abbrev pub first : List (List ℕ) → Option (List ℕ)

@@ -1,7 +1,7 @@
 // The in-order channel: 64 places, first in, first out.
 ghost use mathlib.Core.List.{[]};
 ghost use mathlib.Core.Path.{_≡_};
-ghost use Rattle.channel.specs.Packets.{waiting-in};
+ghost use Rattle.channel.specs.Packets.{waits};
 ghost use Rattle.channel.specs.Queues.{queue};
 use crate::Channel;
 use crate::packet::Packet;
@@ -15,7 +15,7 @@ pub struct InOrder {
 impl InOrder {
     // Nothing waits.
     pub fn new() -> InOrder
-        ensures { λ r. ⌜ waiting-in (r .places .packets) (r .places .waiting) ≡ [] ⌝ }
+        ensures { λ r. ⌜ waits (r .places) ≡ [] ⌝ }
     {
         InOrder {
             places: Places::new(),
@@ -24,7 +24,7 @@ impl InOrder {
 }
 
 pub impl Channel for InOrder as InOrderChannel {
-    ghost link = { queue (λ c. waiting-in (c .places .packets) (c .places .waiting)) };
+    ghost link = { queue (λ c. waits (c .places)) };
 
     fn put(&mut self, frame: &[u8]) {
         self.places.put(frame);

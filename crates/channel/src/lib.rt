@@ -2,10 +2,14 @@
 ghost use Rattle.channel.specs.Links.{Link, Fair};
 ghost use Rattle.channel.specs.Packets.{arrived};
 
+mod courier;
 mod in_order;
 mod packet;
+mod picks;
 mod places;
 
+pub use courier::Courier;
+pub use courier::CourierChannel;
 pub use in_order::InOrder;
 pub use in_order::InOrderChannel;
 pub use packet::Packet;
