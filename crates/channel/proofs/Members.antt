@@ -11,7 +11,7 @@ use Rattle.std.proofs.shelf.Tests.{and-parts, cond-both, leb-true}
 use Rattle.std.specs.declared.option.Option.{Option}
 use Rattle.std.specs.declared.option.Option.the-variants.{Some, None}
 use Rattle.channel.specs.Links.{Carried}
-use Rattle.channel.specs.Queues.{kept, after-put}
+use Rattle.channel.specs.Queues.{kept, put-among}
 
 -- What came, if anything, is one of these frames.
 abbrev pub From : List (List ℕ) → Option (List ℕ) → Type 0
@@ -33,13 +33,13 @@ in-drop zero xs m = m
 in-drop (suc n) [] m = m
 in-drop (suc n) (x ∷ xs) m = List·Memᴰ·tail (in-drop n xs m)
 
-carried : (ws : List (List ℕ)) (f : List ℕ) → kept ws f ≡ true → Carried f
-carried ws f h =
-    let fits = and-parts (leb 1 (length f)) (leb (length f) 71) (and-parts (ltb (length ws) 64) _ h .1) in
+carried : (n : ℕ) (ws : List (List ℕ)) (f : List ℕ) → kept n ws f ≡ true → Carried f
+carried n ws f h =
+    let fits = and-parts (leb 1 (length f)) (leb (length f) 71) (and-parts (ltb (length ws) n) _ h .1) in
     record { some = leb-true _ _ (fits .0); few = leb-true _ _ (fits .1) }
 
-pub in-after-put : (ws : List (List ℕ)) (f g : List ℕ) → List·Memᴰ g (after-put ws f) → List·Memᴰ g ws ⊎ ((g ≡ f) × Carried f)
-in-after-put ws f g =
-    cond-both (kept ws f) _ _ (λ vs. List·Memᴰ g vs → List·Memᴰ g ws ⊎ ((g ≡ f) × Carried f))
-    (λ h m. ⊎-elim inl (λ (k : List·Memᴰ g (f ∷ [])). inr (List·Memᴰ·eq-of-singleton k, carried ws f h)) (List·Memᴰ·append-cases ws m))
+pub in-put : (n : ℕ) (ws : List (List ℕ)) (f g : List ℕ) → List·Memᴰ g (put-among n ws f) → List·Memᴰ g ws ⊎ ((g ≡ f) × Carried f)
+in-put n ws f g =
+    cond-both (kept n ws f) _ _ (λ vs. List·Memᴰ g vs → List·Memᴰ g ws ⊎ ((g ≡ f) × Carried f))
+    (λ h m. ⊎-elim inl (λ (k : List·Memᴰ g (f ∷ [])). inr (List·Memᴰ·eq-of-singleton k, carried n ws f h)) (List·Memᴰ·append-cases ws m))
     (λ h. inl)

@@ -13,7 +13,7 @@ use Rattle.std.proofs.shelf.Tests.{cond-true, cond-false, cond-both, lt-ltb, le
 use Rattle.std.specs.declared.option.Option.the-variants.{Some, None}
 use Rattle.channel.specs.Links.{Fair}
 use Rattle.channel.specs.Couriers.{Cargo, Pick, outcome, by-pick, picked, courier}
-use Rattle.channel.proofs.Members.{From, in-getD, in-take, in-drop, in-after-put}
+use Rattle.channel.proofs.Members.{From, in-getD, in-take, in-drop, in-put}
 
 pub first-64 : (xs : List ℕ) (n : ℕ) → n ≡ min (length xs) 64 → take n xs ≡ take 64 xs
 first-64 xs n e =
@@ -61,7 +61,7 @@ picked-within (w ∷ ws) (p ∷ ps) = by-pick-within (w ∷ ws) p ps (omega arit
 
 pub fair-courier : {C : Type 0} (cargo : C → Cargo) → Fair (courier cargo)
 fair-courier cargo = record {
-  put = λ c d f g h m. in-after-put (cargo c .waiting) f g (subst (λ (x : Cargo). List·Memᴰ g (x .waiting)) h m);
+  put = λ c d f g h m. in-put 64 (cargo c .waiting) f g (subst (λ (x : Cargo). List·Memᴰ g (x .waiting)) h m);
   took = λ c d f h. subst (Within (cargo c .waiting)) h (picked-within (cargo c .waiting) (cargo c .picks)) .came;
   left = λ c d o g h m. subst (Within (cargo c .waiting)) h (picked-within (cargo c .waiting) (cargo c .picks)) .left g m;
 }

@@ -7,7 +7,7 @@ use lib.ListN.{length, getD}
 use Rattle.std.specs.declared.option.Option.the-variants.{Some}
 use Rattle.channel.specs.Links.{Fair}
 use Rattle.channel.specs.Queues.{first, queue}
-use Rattle.channel.proofs.Members.{From, in-drop, in-after-put}
+use Rattle.channel.proofs.Members.{From, in-drop, in-put}
 
 pub first-at : (ws : List (List ℕ)) → 0 < length ws → Some (getD ws 0 []) ≡ first ws
 first-at [] h = absurd (omega arith)
@@ -19,7 +19,7 @@ from-first (w ∷ ws) = List·Memᴰ·head refl
 
 pub fair-queue : {C : Type 0} (waiting : C → List (List ℕ)) → Fair (queue waiting)
 fair-queue waiting = record {
-  put = λ c d f g h m. in-after-put (waiting c) f g (subst (List·Memᴰ g) h m);
+  put = λ c d f g h m. in-put 64 (waiting c) f g (subst (List·Memᴰ g) h m);
   took = λ c d f h. subst (From (waiting c)) (sym (h .came)) (from-first (waiting c));
   left = λ c d o g h m. in-drop 1 (waiting c) (subst (List·Memᴰ g) (h .rest) m);
 }

@@ -1,4 +1,4 @@
--- The frames that wait in the first of 64 places.
+-- The frames that wait in the first of some places.
 use mathlib.Core.Path.{_≡_, sym, ap, _∙_}
 use mathlib.Core.Bool.{true, false}
 use mathlib.Core.List.{List, [], _∷_, _++_, map}
@@ -13,7 +13,7 @@ use Rattle.channel.specs.declared.packet.Packet.{Packet}
 use Rattle.channel.specs.declared.places.Places.{Places}
 use Rattle.channel.specs.Links.{Carried}
 use Rattle.channel.specs.Packets.{body, waiting-in, waits}
-use Rattle.channel.specs.Queues.{kept, after-put}
+use Rattle.channel.specs.Queues.{kept, put-among}
 
 length-waiting : (ps : List Packet) (n : ℕ) → n ≤ length ps → length (waiting-in ps n) ≡ n
 length-waiting ps n h = length-map (take n ps) body ∙ length-take-le n ps h
@@ -26,22 +26,22 @@ at-place ps n at d h k =
     let l = length-take-le n ps k in
     sym (getD-map body (take n ps) at d [] (omega arith) ∙ ap body (getD-take n ps at d h))
 
-pub put-in : (ps : List Packet) (n : ℕ) (p : Packet) (f : List ℕ) → n < 64 → n < length ps → Carried f → body p ≡ f → waiting-in (set ps n p) (n + 1) ≡ after-put (waiting-in ps n) f
-put-in ps n p f h k c e =
+pub put-in : (places : ℕ) (ps : List Packet) (n : ℕ) (p : Packet) (f : List ℕ) → n < places → n < length ps → Carried f → body p ≡ f → waiting-in (set ps n p) (n + 1) ≡ put-among places (waiting-in ps n) f
+put-in places ps n p f h k c e =
     let w = length-waiting ps n (omega arith) in
-    let ok : kept (waiting-in ps n) f ≡ true = grind (arith, tells) in
+    let ok : kept places (waiting-in ps n) f ≡ true = grind (arith, tells) in
     ap (map body) (take-more-set ps n p k) ∙ map-push body (take n ps) p ∙ ap (λ (g : List ℕ). waiting-in ps n ++ (g ∷ [])) e ∙ sym (cond-true _ _ _ ok)
 
-pub put-full : (ps : List Packet) (n : ℕ) (f : List ℕ) → n ≡ 64 → n ≤ length ps → waiting-in ps n ≡ after-put (waiting-in ps n) f
-put-full ps n f h k =
+pub put-full : (places : ℕ) (ps : List Packet) (n : ℕ) (f : List ℕ) → n ≡ places → n ≤ length ps → waiting-in ps n ≡ put-among places (waiting-in ps n) f
+put-full places ps n f h k =
     let w = length-waiting ps n k in
-    let no : kept (waiting-in ps n) f ≡ false = grind (arith, tells) in
+    let no : kept places (waiting-in ps n) f ≡ false = grind (arith, tells) in
     sym (cond-false _ _ _ no)
 
-pub put-lost : (ws : List (List ℕ)) (f : List ℕ) → (Carried f → ⊥) → ws ≡ after-put ws f
-put-lost ws f h =
+pub put-lost : (places : ℕ) (ws : List (List ℕ)) (f : List ℕ) → (Carried f → ⊥) → ws ≡ put-among places ws f
+put-lost places ws f h =
     let not-carried : 1 ≤ length f → length f ≤ 71 → ⊥ = λ a b. h (record { some = a; few = b }) in
-    let no : kept ws f ≡ false = grind (arith, tells) in
+    let no : kept places ws f ≡ false = grind (arith, tells) in
     sym (cond-false _ _ _ no)
 
 -- A list from which an element was taken and set behind all others, cut to one less.

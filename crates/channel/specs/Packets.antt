@@ -11,11 +11,11 @@ use Rattle.channel.specs.declared.places.Places.{Places}
 abbrev pub body : Packet → List ℕ
 body p = take (p .len) (p .bytes)
 
--- The frames that the first n of 64 places hold, the oldest first.
+-- The frames that the first n places hold.
 abbrev pub waiting-in : List Packet → ℕ → List (List ℕ)
 waiting-in ps n = map body (take n ps)
 
--- The frames that wait, the oldest first.
+-- The frames that wait in the 64 places, the oldest first.
 abbrev pub waits : Places → List (List ℕ)
 waits p = waiting-in (p .packets) (p .waiting)
 

@@ -9,13 +9,16 @@ use Rattle.std.specs.declared.option.Option.{Option}
 use Rattle.std.specs.declared.option.Option.the-variants.{Some, None}
 use Rattle.channel.specs.Links.{Link}
 
--- A put keeps frame f where fewer than 64 wait and it can be carried; else f is lost.
-abbrev pub kept : List (List ℕ) → List ℕ → Bool
-kept ws f = ltb (length ws) 64 && (leb 1 (length f) && leb (length f) 71)
+-- A put among n places keeps frame f where fewer than n frames wait and f can be carried. Else f is lost.
+abbrev pub kept : ℕ → List (List ℕ) → List ℕ → Bool
+kept n ws f = ltb (length ws) n && (leb 1 (length f) && leb (length f) 71)
 
--- What waits after a put: a frame that is kept joins at the end.
+-- What waits among n places after a put: a frame that is kept joins at the end.
+abbrev pub put-among : ℕ → List (List ℕ) → List ℕ → List (List ℕ)
+put-among n ws f = cond (kept n ws f) (ws ++ (f ∷ [])) ws
+
 abbrev pub after-put : List (List ℕ) → List ℕ → List (List ℕ)
-after-put ws f = cond (kept ws f) (ws ++ (f ∷ [])) ws
+after-put ws f = put-among 64 ws f
 
 -- The first that waits.
 abbrev pub first : List (List ℕ) → Option (List ℕ)
