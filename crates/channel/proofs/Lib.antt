@@ -1,0 +1,4 @@
+pub mod Members
+pub mod Waiting
+pub mod Queueing
+pub mod Picking

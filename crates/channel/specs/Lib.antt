@@ -1,0 +1,4 @@
+pub mod Links
+pub mod Packets
+pub mod Queues
+pub mod Couriers
