@@ -1,5 +1,6 @@
 // Two copies of a small table of mast cards, an office's and a laptop's, are joined key by key.
 mod copies;
+mod link;
 mod print;
 
 use copies::SITES;
@@ -17,6 +18,7 @@ use kinds::RegisterBesideRest;
 use kinds::RegisterElement;
 use kinds::SetBesideCounter;
 use kinds::SetElement;
+use link::send;
 use print::print_table;
 use std::error::AnyError;
 
@@ -99,6 +101,7 @@ fn run(rt: &LibcRuntime) -> Result<(), AnyError> {
     )?;
     print_digests(rt, "before", &office, &laptop)?;
     print_digests(rt, "after", &here, &there)?;
+    send(rt, &laptop[0])?;
     Ok(())
 }
 

@@ -15,7 +15,7 @@ fn print_positions(rt: &LibcRuntime, record: SetRecord) -> io::Result<()> {
     Ok(())
 }
 
-fn print_card(rt: &LibcRuntime, key: usize, card: &Card) -> io::Result<()> {
+pub(crate) fn print_card(rt: &LibcRuntime, key: usize, card: &Card) -> io::Result<()> {
     let height = card.first;
     // Eight seats of 32 bits have a sum below 2 to the power 35. So `saturating_add` never meets its limit: it is here
     // because the proof then needs no bound for the sum.
