@@ -1,2 +1,4 @@
 pub mod Walking
 pub mod Rounds
+pub mod Replicas
+pub mod Calls

@@ -12,9 +12,25 @@ pub data State : Type 0 where
   idle : State
   running : ℕ → ℕ → State
 
--- The state that the record's plain numbers say.
+pub record Progress : Type 0 where
+  pub size : ℕ
+  pub last : ℕ
+  pub state : State
+
+-- What the record's plain numbers say.
 abbrev pub state-of : Round → State
 state-of r = cond (r .running) (running (r .range) (r .count)) idle
+
+abbrev pub progress-of : Round → Progress
+progress-of r = record { size = r .size; last = r .last; state = state-of r }
+
+-- The same record in another state.
+abbrev pub in-state : Progress → State → Progress
+in-state p s = record { size = p .size; last = p .last; state = s }
+
+-- With the next round number, at range 1.
+abbrev pub begun : Progress → Progress
+begun p = record { size = p .size; last = p .last + 1; state = running 1 0 }
 
 -- After an answer was taken, where so many were before: at the range that comes next, or at the end.
 abbrev pub moved-to : ℕ → Option ℕ → State

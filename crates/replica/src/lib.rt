@@ -1,4 +1,6 @@
-// Replicas: so far the record of a round.
+// Replicas: so far the record of a round, what a call does with the tables, and the questions of a round.
 mod answer;
+mod asking;
 mod round;
 mod rounds;
+mod tables;
