@@ -1,6 +1,7 @@
-// Replicas: so far the record of a round, what a call does with the tables, and the questions of a round.
+// Replicas: so far the record of a round and the parts of the calls.
 mod answer;
 mod asking;
+mod opening;
 mod round;
 mod rounds;
 mod tables;
