@@ -5,6 +5,7 @@ use mathlib.Core.Path.{_≡_}
 use Prim.Native.Nat.{ℕ}
 use lib.Dec.{eqb, ltb}
 use lib.ListN.{getD}
+use Rattle.std.specs.Results.{isOk}
 use Rattle.std.specs.declared.result.Result.{Result}
 use Rattle.std.specs.declared.result.Result.the-variants.{Ok, Err}
 use Rattle.channel.specs.Links.{Link}
@@ -12,8 +13,10 @@ use Rattle.element.specs.Model.{Model}
 use Rattle.element.specs.declared.refusal.Refusal.{Refusal}
 use Rattle.element.specs.declared.refusal.Refusal.the-variants.{Size, Key, Busy, Idle, Spent}
 use Rattle.frame.specs.Frames.{Frame, written}
+use Rattle.tree.specs.Sizes.{fit}
 use Rattle.replica.specs.Replicas.{Replica, fitting, with-progress, absorbed, question}
-use Rattle.replica.specs.Rounds.{State, idle, running, in-state, begun}
+use Rattle.replica.specs.Rounds.{State, idle, running, Progress, progress-of, in-state, begun}
+use Rattle.replica.specs.declared.round.Round.{Round}
 
 -- What a declined call leaves is what it found.
 abbrev pub if-ok : {A B : Type 0} → Result A Refusal → B → B → B
@@ -29,6 +32,15 @@ If-ok (Err e) P Q = Q
 abbrev pub runs : State → Bool
 runs idle = false
 runs (running n c) = true
+
+-- Make is told the last round number and is handed tables of any size. What it answers: a record, idle.
+abbrev pub made : ℕ → ℕ → Progress
+made n last = record { size = n; last = last; state = idle }
+
+pub record Makes (n d last : ℕ) (r : Result Round Refusal) : Type 0 where
+  pub accepts : fit n d ≡ true → isOk r ≡ true
+  pub declines : fit n d ≡ false → r ≡ Err Size
+  pub answers : (k : Round) → r ≡ Ok k → progress-of k ≡ made n last
 
 module _ {R : Type 0} (m : Model R) (h : List ℕ → ℕ) (s : Replica R) where
   -- Lay joins an element into a key.

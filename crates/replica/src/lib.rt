@@ -1,6 +1,7 @@
 // Replicas: so far the record of a round and the parts of the calls.
 mod answer;
 mod asking;
+mod making;
 mod opening;
 mod round;
 mod rounds;
