@@ -1,11 +1,11 @@
 -- A lawful frame reads back as written, and what reads as a frame is that frame, written, and lawful.
 use mathlib.Core.Path.{_≡_, refl, sym, ap, subst, _∙_}
-use mathlib.Core.Bool.{Bool, true, _&&_}
+use mathlib.Core.Bool.{true, _&&_}
 use mathlib.Core.List.{List, [], _∷_, _++_}
-use Prim.Native.Nat.{ℕ, zero, suc, _+_, _*_, _^_, _≤_, _<_}
+use Prim.Native.Nat.{ℕ, zero, suc, _*_, _^_, _≤_, _<_}
 use native.Mathlib.Omega.{arith}
 use lib.Dec.{leb, ltb}
-use lib.ListN.{length, take, drop, length-take, length-drop, length-append, take-append-drop}
+use lib.ListN.{length, take, drop, length-take, length-drop, take-append-drop}
 use Rattle.std.specs.Options.{isSome}
 use Rattle.std.specs.declared.option.Option.{Option}
 use Rattle.std.specs.declared.option.Option.the-variants.{Some, None}
@@ -15,7 +15,7 @@ use Rattle.element.specs.Bytes.{ByteString, be, number}
 use Rattle.element.specs.Model.{Model, Laws}
 use Rattle.element.proofs.Numbers.{number-be, be-spelt, spelt-below, bytes-take, bytes-drop}
 use Rattle.frame.specs.Frames.{Frame, compare, same, differ, offer, held, header, written, Numbered, Inner, Single, Spells, Lawful}
-use Rattle.frame.specs.Decoding.{framed, decoded, Codec, Reads}
+use Rattle.frame.specs.Decoding.{good-kind, good-length, round-of, good-range, good-element, framed, decoded, Reads}
 use Rattle.frame.proofs.Judging.{Passes, taken, was-taken}
 
 -- The fields of written frames pass: s is the field as it reads back.
@@ -67,13 +67,17 @@ module _ (rest : List ℕ) (long : 6 ≤ length rest) (o : ByteString rest) wher
       (λ i. k ∷ ((p i ++ q i) ++ drop 6 rest))
       ∙ ap (λ (xs : List ℕ). k ∷ xs) (s ∙ ap (λ (xs : List ℕ). take 4 rest ++ xs) t ∙ take-append-drop 4 rest)
 
-  numbered : leb 1 (number (take 4 rest)) ≡ true → Numbered (number (take 4 rest))
-  numbered h = record { low = leb-true 1 _ h; high = spelt-below 4 (take 4 rest) four (bytes-take 4 rest o) }
+  round-lawful : leb 1 (number (take 4 rest)) ≡ true → Numbered (number (take 4 rest))
+  round-lawful h = record { low = leb-true 1 _ h; high = spelt-below 4 (take 4 rest) four (bytes-take 4 rest o) }
 
 module _ {R : Type 0} {m : Model R} (laws : Laws m) (N : ℕ) (few : N ≤ 4096) where
-  module _ (r n : ℕ) (numbered′ : Numbered r) where
+  module _ (r n : ℕ) (numbered : Numbered r) where
     round-back : number (be 4 r) ≡ r
-    round-back = number-be 4 r (numbered′ .high)
+    round-back = number-be 4 r (numbered .high)
+
+    -- a frame of this round whose other fields pass
+    read-as : (f : Frame) → good-kind m N (written f) ≡ true → good-length m N (written f) ≡ true → round-of (written f) ≡ r → good-range m N (written f) ≡ true → good-element m N (written f) ≡ true → framed (written f) ≡ f → decoded m N (written f) ≡ Some f
+    read-as f k l e q d is = taken m N (written f) (record { kind = k; long = l; round = round-passes r _ e numbered; range = q; element = d }) ∙ ap Some is
 
     module _ (inner : Inner N n) where
       inner-back : number (be 2 n) ≡ n
@@ -82,18 +86,13 @@ module _ {R : Type 0} {m : Model R} (laws : Laws m) (N : ℕ) (few : N ≤ 4096)
       back-compare : (d : ℕ) → d < 2 ^ 64 → decoded m N (written (compare r n d)) ≡ Some (compare r n d)
       back-compare d h =
           let digest-back = number-be 8 d h in
-          taken m N (written (compare r n d)) (record { kind = refl; long = refl; round = round-passes r _ round-back numbered′; range = inner-passes N n _ inner-back inner; element = refl })
-          ∙ (λ i. Some (compare (round-back i) (inner-back i) (digest-back i)))
+          read-as (compare r n d) refl refl round-back (inner-passes N n _ inner-back inner) refl (λ i. compare (round-back i) (inner-back i) (digest-back i))
 
       back-same : decoded m N (written (same r n)) ≡ Some (same r n)
-      back-same =
-          taken m N (written (same r n)) (record { kind = refl; long = refl; round = round-passes r _ round-back numbered′; range = inner-passes N n _ inner-back inner; element = refl })
-          ∙ (λ i. Some (same (round-back i) (inner-back i)))
+      back-same = read-as (same r n) refl refl round-back (inner-passes N n _ inner-back inner) refl (λ i. same (round-back i) (inner-back i))
 
       back-differ : decoded m N (written (differ r n)) ≡ Some (differ r n)
-      back-differ =
-          taken m N (written (differ r n)) (record { kind = refl; long = refl; round = round-passes r _ round-back numbered′; range = inner-passes N n _ inner-back inner; element = refl })
-          ∙ (λ i. Some (differ (round-back i) (inner-back i)))
+      back-differ = read-as (differ r n) refl refl round-back (inner-passes N n _ inner-back inner) refl (λ i. differ (round-back i) (inner-back i))
 
     module _ (single : Single N n) (bs : List ℕ) (spells : Spells m bs) where
       single-back : number (be 2 n) ≡ n
@@ -106,14 +105,10 @@ module _ {R : Type 0} {m : Model R} (laws : Laws m) (N : ℕ) (few : N ≤ 4096)
       spelt = ap (λ (xs : List ℕ). isSome (m .parsed xs)) (sym (spells .1)) ∙ ap isSome (laws .read-back (spells .0))
 
       back-offer : decoded m N (written (offer r n bs)) ≡ Some (offer r n bs)
-      back-offer =
-          taken m N (written (offer r n bs)) (record { kind = refl; long = eq-eqb _ _ (omega (arith, as-wide)); round = round-passes r _ round-back numbered′; range = single-passes N n _ single-back single; element = spelt })
-          ∙ (λ i. Some (offer (round-back i) (single-back i) bs))
+      back-offer = read-as (offer r n bs) refl (eq-eqb _ _ (omega (arith, as-wide))) round-back (single-passes N n _ single-back single) spelt (λ i. offer (round-back i) (single-back i) bs)
 
       back-held : decoded m N (written (held r n bs)) ≡ Some (held r n bs)
-      back-held =
-          taken m N (written (held r n bs)) (record { kind = refl; long = eq-eqb _ _ (omega (arith, as-wide)); round = round-passes r _ round-back numbered′; range = single-passes N n _ single-back single; element = spelt })
-          ∙ (λ i. Some (held (round-back i) (single-back i) bs))
+      back-held = read-as (held r n bs) refl (eq-eqb _ _ (omega (arith, as-wide))) round-back (single-passes N n _ single-back single) spelt (λ i. held (round-back i) (single-back i) bs)
 
   back : (f : Frame) → Lawful m N f → decoded m N (written f) ≡ Some f
   back (compare r n d) h = back-compare r n (h .0) (h .1) d (h .2)
@@ -122,6 +117,7 @@ module _ {R : Type 0} {m : Model R} (laws : Laws m) (N : ℕ) (few : N ≤ 4096)
   back (offer r n bs) h = back-offer r n (h .0) (h .1) bs (h .2)
   back (held r n bs) h = back-held r n (h .0) (h .1) bs (h .2)
 
+  -- what passes is a lawful frame, and is that frame written
   abbrev Right : List ℕ → Type 0
   Right bs = Passes m N bs → Lawful m N (framed bs) × (written (framed bs) ≡ bs)
 
@@ -132,7 +128,7 @@ module _ {R : Type 0} {m : Model R} (laws : Laws m) (N : ℕ) (few : N ≤ 4096)
         let t : length (drop 6 rest) ≡ 8 = length-drop 6 rest ∙ omega arith in
         let six : 6 ≤ length rest = omega arith in
         let b = bytes-drop 6 rest o in (
-          (numbered rest six o (p .round), inner-lawful N _ (p .range), spelt-below 8 (drop 6 rest) t b),
+          (round-lawful rest six o (p .round), inner-lawful N _ (p .range), spelt-below 8 (drop 6 rest) t b),
           ap (λ (xs : List ℕ). header 1 (number (take 4 rest)) (number (take 2 (drop 4 rest))) ++ xs) (be-spelt 8 (drop 6 rest) t b) ∙ whole rest six o 1,
         )
 
@@ -145,12 +141,12 @@ module _ {R : Type 0} {m : Model R} (laws : Laws m) (N : ℕ) (few : N ≤ 4096)
     right-same : Right (2 ∷ rest)
     right-same p =
         let l : length rest ≡ 6 = omega (arith, eqb-true _ _ (p .long)) in
-        ((numbered rest (omega arith) o (p .round), inner-lawful N _ (p .range)), bare 2 l)
+        ((round-lawful rest (omega arith) o (p .round), inner-lawful N _ (p .range)), bare 2 l)
 
     right-differ : Right (3 ∷ rest)
     right-differ p =
         let l : length rest ≡ 6 = omega (arith, eqb-true _ _ (p .long)) in
-        ((numbered rest (omega arith) o (p .round), inner-lawful N _ (p .range)), bare 3 l)
+        ((round-lawful rest (omega arith) o (p .round), inner-lawful N _ (p .range)), bare 3 l)
 
     spells-of : isSome (m .parsed (drop 6 rest)) ≡ true → Spells m (drop 6 rest)
     spells-of h =
@@ -160,12 +156,12 @@ module _ {R : Type 0} {m : Model R} (laws : Laws m) (N : ℕ) (few : N ≤ 4096)
     right-offer : Right (4 ∷ rest)
     right-offer p =
         let l : 6 ≤ length rest = omega (arith, eqb-true _ _ (p .long)) in
-        ((numbered rest l o (p .round), single-lawful N _ (p .range), spells-of (p .element)), whole rest l o 4)
+        ((round-lawful rest l o (p .round), single-lawful N _ (p .range), spells-of (p .element)), whole rest l o 4)
 
     right-held : Right (5 ∷ rest)
     right-held p =
         let l : 6 ≤ length rest = omega (arith, eqb-true _ _ (p .long)) in
-        ((numbered rest l o (p .round), single-lawful N _ (p .range), spells-of (p .element)), whole rest l o 5)
+        ((round-lawful rest l o (p .round), single-lawful N _ (p .range), spells-of (p .element)), whole rest l o 5)
 
   right : (bs : List ℕ) → ByteString bs → Right bs
   right [] o p = absurd (both-ways _ refl (p .kind))

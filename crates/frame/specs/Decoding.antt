@@ -29,7 +29,7 @@ length-of width k = cond (eqb k 1) 15 (cond (leb k 3) 7 (7 + width))
 abbrev pub range-fits : ℕ → ℕ → ℕ → Bool
 range-fits N k n = cond (leb k 3) (leb 1 n && ltb n N) (leb N n && ltb n (2 * N))
 
--- whether what follows the header is lawful: of the kinds with an element, that its bytes are
+-- whether bs may follow the header of a kind: of the kinds with an element, whether they are lawful bytes
 abbrev pub element-fits : {R : Type 0} → Model R → ℕ → List ℕ → Bool
 element-fits m k bs = cond (leb k 3) true (isSome (m .parsed bs))
 

@@ -1,10 +1,7 @@
 // Frames, read from their bytes.
-ghost use mathlib.Core.Bool.{true, cond, _&&_};
 ghost use mathlib.Core.Path.{_≡_};
-ghost use Prim.Native.Nat.{_*_, _≤_};
-ghost use lib.Dec.{leb, ltb};
+ghost use Prim.Native.Nat.{_≤_};
 ghost use lib.ListN.{length, drop};
-ghost use Rattle.std.specs.Options.{isSome};
 ghost use Rattle.std.specs.Results.{Cases};
 ghost use Rattle.std.specs.declared.option.Option.the-variants.{Some, None};
 ghost use Rattle.element.specs.declared.refusal.Refusal.the-variants.{Frame};
@@ -24,7 +21,7 @@ fn length_of<E: Element>(kind: u8) -> usize
 {
     match kind {
         1 => 15,
-        0 | 2 | 3 => 7,
+        0..=3 => 7,
         _ => 7 + E::width(),
     }
 }
@@ -43,7 +40,7 @@ fn range_fits(kind: u8, size: usize, frame: &[u8]) -> bool
     }
 }
 
-// Whether what follows the header is lawful: of the kinds with an element, that its bytes are.
+// Whether what follows the header is lawful: of the kinds with an element, whether its bytes are.
 fn element_fits<E: Element>(kind: u8, frame: &[u8]) -> bool
     requires { ⌜ 7 ≤ length (now frame) ⌝ }
     ensures { λ r. ⌜ r ≡ element-fits (E·Element .model) kind (drop 7 (now (frame .entry))) ⌝ }

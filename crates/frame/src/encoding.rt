@@ -1,10 +1,6 @@
 // Frames, written to lent memory.
-ghost use mathlib.Core.Bool.{cond};
 ghost use mathlib.Core.List.{_++_};
 ghost use mathlib.Core.Path.{_≡_};
-ghost use lib.Dec.{leb};
-ghost use lib.ListN.{length};
-ghost use Rattle.std.specs.declared.option.Option.the-variants.{Some, None};
 ghost use Rattle.element.specs.Bytes.{placed};
 ghost use Rattle.frame.specs.Frames.{header, written, room, Example};
 ghost use Rattle.frame.specs.Views.{viewed};

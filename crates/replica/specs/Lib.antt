@@ -2,3 +2,4 @@ pub mod Walking
 pub mod Rounds
 pub mod Replicas
 pub mod Calls
+pub mod Steps
