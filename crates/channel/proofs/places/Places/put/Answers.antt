@@ -2,8 +2,8 @@ use native.Mathlib.Omega.{arith}
 use Rattle.channel.proofs.Waiting.{put-in, put-full}
 use Rattle.channel.proofs.places.Places.put.Needs as need
 
-pub returns-then-n-eq64 : need.returns-then-n-eq64
-returns-then-n-eq64 c = put-full 64 (c .args .self .now .packets) _ (c .args .frame .now) (omega arith) (omega arith)
+pub returns-then-full : need.returns-then-full
+returns-then-full c = put-full 64 (c .args .self .now .packets) _ (c .args .frame .now) (omega arith) (omega arith)
 
 pub returns : need.returns
 returns c =
