@@ -38,12 +38,6 @@ put-full places ps n f h k =
     let no : kept places (waiting-in ps n) f ≡ false = grind (arith, tells) in
     sym (cond-false _ _ _ no)
 
-pub put-lost : (places : ℕ) (ws : List (List ℕ)) (f : List ℕ) → (Carried f → ⊥) → ws ≡ put-among places ws f
-put-lost places ws f h =
-    let not-carried : 1 ≤ length f → length f ≤ 71 → ⊥ = λ a b. h (record { some = a; few = b }) in
-    let no : kept places ws f ≡ false = grind (arith, tells) in
-    sym (cond-false _ _ _ no)
-
 -- A list from which an element was taken and set behind all others, cut to one less.
 cut : {X : Type 0} (xs ys : List X) (at m : ℕ) → at ≤ m → m < length xs → take m (take at xs ++ (drop (suc at) xs ++ ys)) ≡ take at (take (suc m) xs) ++ drop (suc at) (take (suc m) xs)
 cut [] ys at m h k = absurd (omega arith)

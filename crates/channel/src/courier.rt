@@ -44,7 +44,8 @@ pub impl Channel for Courier as CourierChannel {
             return None;
         };
         let at = pick as usize % n;
-        if pick < 128 {
+        let stays = pick < 128;
+        if stays {
             return Some(self.places.packet(at));
         }
         self.places.remove(at);

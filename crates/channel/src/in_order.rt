@@ -31,7 +31,8 @@ pub impl Channel for InOrder as InOrderChannel {
     }
 
     fn take(&mut self) -> Option<Packet> {
-        if self.places.count() == 0 {
+        let n = self.places.count();
+        if n == 0 {
             return None;
         }
         let first = self.places.packet(0);

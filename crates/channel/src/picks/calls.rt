@@ -22,7 +22,8 @@ impl Picks {
     pub fn next(&mut self) -> Option<u8>
         ensures { λ r. ⌜ BySome r ((unused (now (self .entry)) ≡ []) × (unused (now (self .exit)) ≡ [])) (λ p. unused (now (self .entry)) ≡ p ∷ unused (now (self .exit))) ⌝ }
     {
-        if self.from == 64 {
+        let spent = self.from == 64;
+        if spent {
             return None;
         }
         let pick = self.bytes[self.from];

@@ -39,7 +39,8 @@ impl Places {
         ensures { λ _. ⌜ waits (now (self .exit)) ≡ after-put (waits (now (self .entry))) (now (frame .entry)) ⌝ }
     {
         let n = self.waiting;
-        if n == 64 {
+        let full = n == 64;
+        if full {
             return;
         }
         let Some(packet) = Packet::new(frame) else {
