@@ -1,2 +1,3 @@
 pub mod Walks
 pub mod Sending
+pub mod Fitting

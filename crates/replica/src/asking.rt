@@ -51,8 +51,7 @@ fn offer<E: Element, O: Channel>(round: u32, range: u16, x: &E, out: &mut O)
     ensures { λ _. ⌜ O·Channel .link .puts (now (out .entry)) (written (frame-offer round range (E·Element .model .written (now (x .entry))))) (now (out .exit)) ⌝ }
 {
     let mut bytes = [0; 64];
-    x.write(&mut bytes);
-    let part = &bytes[0..E::width()];
+    let part = part_of(x, &mut bytes);
     send(Message::Offer { round, range, part }, out);
 }
 
@@ -60,15 +59,13 @@ fn offer<E: Element, O: Channel>(round: u32, range: u16, x: &E, out: &mut O)
 fn compare<O: Channel>(round: u32, range: u16, digest: u64, out: &mut O)
     ensures { λ _. ⌜ O·Channel .link .puts (now (out .entry)) (written (frame-compare round range digest)) (now (out .exit)) ⌝ }
 {
-    send(comparing(round, range, digest), out);
+    send(Message::compare(round, range, digest), out);
 }
 
-fn comparing<'a>(round: u32, range: u16, digest: u64) -> Message<'a>
-    ensures { λ r. ⌜ viewed r ≡ frame-compare round range digest ⌝ }
+// The bytes of `x`, written at the front of `bytes`.
+pub(crate) fn part_of<'a, E: Element>(x: &E, bytes: &'a mut [u8; 64]) -> &'a [u8]
+    ensures { λ r. ⌜ now r ≡ E·Element .model .written (now (x .entry)) ⌝ }
 {
-    Message::Compare {
-        round,
-        range,
-        digest,
-    }
+    x.write(bytes);
+    &bytes[0..E::width()]
 }

@@ -3,6 +3,7 @@ mod answer;
 mod asking;
 mod making;
 mod opening;
+mod reacting;
 mod round;
 mod rounds;
 mod tables;
