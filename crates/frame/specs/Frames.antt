@@ -35,7 +35,7 @@ written (held r n bs) = header 5 r n ++ bs
 abbrev pub Example : Type 0
 Example = written (compare 1 1 255) ≡ 1 ∷ 0 ∷ 0 ∷ 0 ∷ 1 ∷ 0 ∷ 1 ∷ 0 ∷ 0 ∷ 0 ∷ 0 ∷ 0 ∷ 0 ∷ 0 ∷ 255 ∷ []
 
--- How many bytes a write of bs over the front of out brings, or none where out is too short for it.
+-- How many bytes a write of bs over the front of out writes, or none where out is too short for them.
 abbrev pub room : List ℕ → List ℕ → Option ℕ
 room bs out = cond (leb (length bs) (length out)) (Some (length bs)) None
 

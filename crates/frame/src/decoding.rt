@@ -61,7 +61,8 @@ pub fn decode<'a, E: Element>(size: usize, frame: &'a [u8]) -> Result<Message<'a
     let true = (frame.len() == length_of::<E>(*kind)) else {
         return Err(Refusal::Frame);
     };
-    let 1.. = round_in(frame) else {
+    let round = round_in(frame);
+    let 1.. = round else {
         return Err(Refusal::Frame);
     };
     let true = range_fits(*kind, size, frame) else {

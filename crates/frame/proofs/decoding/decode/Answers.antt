@@ -22,8 +22,8 @@ returns-in-rest-2 g c = record {
   codec = reads (g .E·Element·met .laws);
 }
 
-pub returns-in-rest-round-in : need.returns-in-rest-round-in
-returns-in-rest-round-in g c = record {
+pub returns-in-rest-round : need.returns-in-rest-round
+returns-in-rest-round g c = record {
   answer = (refl, no-round (g .E·Element .model) (c .args .size) (c .args .frame .now) (lt-leb _ _ (omega arith)));
   codec = reads (g .E·Element·met .laws);
 }
