@@ -57,8 +57,8 @@ stowed c f = record { waiting = after-put (c .waiting) f; picks = c .picks }
 
 -- The channel, by what it carries. All frames that wait count as those that may arrive, whatever picks are left.
 abbrev pub courier : {C : Type 0} → (C → Cargo) → Link C
-courier cargo = record {
-  may = λ c. cargo c .waiting;
-  puts = λ c f d. cargo d ≡ stowed (cargo c) f;
-  takes = λ c o d. picked (cargo c .waiting) (cargo c .picks) ≡ record { came = o; left = cargo d };
+courier held = record {
+  may = λ c. held c .waiting;
+  puts = λ c f d. held d ≡ stowed (held c) f;
+  takes = λ c o d. picked (held c .waiting) (held c .picks) ≡ record { came = o; left = held d };
 }

@@ -8,7 +8,7 @@ mod calls;
 
 // The picks that are left stand at the end, from `from` on, so that one number says which they are.
 #[derive(Drop)]
-pub struct Picks {
+pub(crate) struct Picks {
     bytes: [u8; 64],
     from: usize,
     ghost full: { length bytes ≡ 64 },

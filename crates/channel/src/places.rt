@@ -9,7 +9,7 @@ mod calls;
 
 // The frames that wait stand in the first `waiting` places, the oldest first.
 #[derive(Drop)]
-pub struct Places {
+pub(crate) struct Places {
     packets: [Packet; 64],
     waiting: usize,
     ghost full: { length packets ≡ 64 },

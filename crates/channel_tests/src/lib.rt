@@ -1,9 +1,11 @@
 // Tests of the channels, with two channels of its own: a new one needs only its link and the law.
 mod nowhere;
+mod relay;
 mod stack;
 
 pub use nowhere::Nowhere;
 pub use nowhere::NowhereChannel;
+pub use relay::pass_on;
 pub use stack::Stack;
 pub use stack::StackChannel;
 
@@ -94,6 +96,20 @@ mod tests {
         courier.put(&[10]);
         check(comes(&mut courier, &[10]))?;
         check(courier.take().is_none())
+    }
+
+    #[test]
+    fn frames_pass_from_channel_to_channel() -> Result<(), Fail> {
+        let mut first = InOrder::new();
+        let mut second = Stack::new();
+        first.put(&[1]);
+        first.put(&[2]);
+        for _ in 0..3 {
+            pass_on(&mut first, &mut second);
+        }
+        check(first.take().is_none())?;
+        check(comes(&mut second, &[2]))?;
+        check(comes(&mut second, &[1]))
     }
 
     #[test]

@@ -8,7 +8,7 @@ use super::Picks;
 
 impl Picks {
     // The first 64 of the picks given.
-    pub fn new(given: &[u8]) -> Picks
+    pub(crate) fn new(given: &[u8]) -> Picks
         ensures { λ r. ⌜ unused r ≡ take 64 (now (given .entry)) ⌝ }
     {
         let n = given.len().min(64);
@@ -19,7 +19,7 @@ impl Picks {
     }
 
     // Uses up the next pick, and answers it; none where none is left.
-    pub fn next(&mut self) -> Option<u8>
+    pub(crate) fn next(&mut self) -> Option<u8>
         ensures { λ r. ⌜ BySome r ((unused (now (self .entry)) ≡ []) × (unused (now (self .exit)) ≡ [])) (λ p. unused (now (self .entry)) ≡ p ∷ unused (now (self .exit))) ⌝ }
     {
         let spent = self.from == 64;

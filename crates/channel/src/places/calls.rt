@@ -10,7 +10,7 @@ use crate::packet::Packet;
 
 impl Places {
     // Nothing waits.
-    pub fn new() -> Places
+    pub(crate) fn new() -> Places
         ensures { λ r. ⌜ waits r ≡ [] ⌝ }
     {
         Places {
@@ -20,14 +20,14 @@ impl Places {
     }
 
     // How many frames wait.
-    pub fn count(&self) -> usize
+    pub(crate) fn count(&self) -> usize
         ensures { λ r. ⌜ r ≡ now (self .entry) .waiting ⌝ }
     {
         self.waiting
     }
 
     // The frame at place `at`.
-    pub fn packet(&self, at: usize) -> Packet
+    pub(crate) fn packet(&self, at: usize) -> Packet
         requires { ⌜ at < now self .waiting ⌝ }
         ensures { λ r. ⌜ body r ≡ getD (waits (now (self .entry))) at [] ⌝ }
     {
@@ -35,7 +35,7 @@ impl Places {
     }
 
     // The frame joins at the end, or is lost where 64 wait or no packet can hold it.
-    pub fn put(&mut self, frame: &[u8])
+    pub(crate) fn put(&mut self, frame: &[u8])
         ensures { λ _. ⌜ waits (now (self .exit)) ≡ after-put (waits (now (self .entry))) (now (frame .entry)) ⌝ }
     {
         let n = self.waiting;
@@ -50,8 +50,8 @@ impl Places {
         self.waiting = n + 1;
     }
 
-    // Removes the frame at place `at`: those behind it move up by one, and its packet goes behind all places.
-    pub fn remove(&mut self, at: usize)
+    // Removes the frame at place `at`: those behind it move up by one, and its packet goes to the last place.
+    pub(crate) fn remove(&mut self, at: usize)
         requires { ⌜ at < now self .waiting ⌝ }
         ensures { λ _. ⌜ waits (now (self .exit)) ≡ take at (waits (now (self .entry))) ++ drop (at + 1) (waits (now (self .entry))) ⌝ }
     {
