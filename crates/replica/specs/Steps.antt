@@ -11,6 +11,7 @@ use Rattle.std.specs.declared.result.Result.{Result}
 use Rattle.std.specs.declared.result.Result.the-variants.{Ok, Err}
 use Rattle.channel.specs.Links.{Link}
 use Rattle.element.specs.Model.{Model}
+use Rattle.element.specs.Tables.{held-at}
 use Rattle.element.specs.declared.refusal.Refusal.{Refusal}
 use Rattle.element.specs.declared.refusal.Refusal.the-variants.{Size, Frame as Unlawful, Stale}
 use Rattle.frame.specs.Decoding.{decoded}
@@ -69,7 +70,7 @@ module _ {R : Type 0} (m : Model R) (h : List ℕ → ℕ) {O : Type 0} (l : Lin
   pub record Offered (r n : ℕ) (x : R) (s t : Replica R) (c d : O) (y : Result Answer Refusal) : Type 0 where
     pub says : y ≡ Ok Answered
     pub replica : t ≡ absorbed m h s (n - s .progress .size) x
-    pub link : l .puts c (written (held r n (m .written (getD (t .elements) (n - s .progress .size) (m .bottom))))) d
+    pub link : l .puts c (written (held r n (m .written (held-at m (s .elements) (n - s .progress .size) x)))) d
 
   -- The element that bytes are, where they are lawful.
   abbrev pub With : List ℕ → (R → Type 0) → Type 0

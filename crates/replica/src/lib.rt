@@ -6,4 +6,5 @@ mod opening;
 mod reacting;
 mod round;
 mod rounds;
+mod stepping;
 mod tables;
