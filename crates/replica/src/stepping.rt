@@ -3,11 +3,12 @@ ghost use mathlib.Core.Bool.{true, cond};
 ghost use mathlib.Core.Path.{_≡_};
 ghost use Rattle.std.specs.declared.result.Result.the-variants.{Ok, Err};
 ghost use Rattle.element.specs.declared.refusal.Refusal.the-variants.{Stale};
+ghost use Rattle.frame.specs.Decoding.{decoded};
 ghost use Rattle.frame.specs.Frames.{Lawful};
 ghost use Rattle.frame.specs.Views.{viewed};
 ghost use Rattle.replica.specs.Replicas.{fitting, replica-of};
 ghost use Rattle.replica.specs.Rounds.{progress-of};
-ghost use Rattle.replica.specs.Steps.{awaits, Reacts};
+ghost use Rattle.replica.specs.Steps.{awaits, Reacts, Judged, Steps};
 use crate::answer::Answer;
 use crate::reacting::answer_compare;
 use crate::reacting::descend;
@@ -15,11 +16,13 @@ use crate::reacting::proceed;
 use crate::reacting::take_held;
 use crate::reacting::take_offer;
 use crate::round::Round;
+use crate::tables::tables_fit;
 use channel::Channel;
 use digest::Digest;
 use element::Element;
 use element::Refusal;
 use frame::Message;
+use frame::decode;
 
 // Declines an answer of another round or range than the running ones.
 fn expect(round: &Round, number: u32, range: u16) -> Result<(), Refusal>
@@ -84,4 +87,40 @@ fn react<E: Element, D: Digest, O: Channel>(
             Ok(take_held(digest, round, elements, digests, x, out))
         }
     }
+}
+
+// Reads a frame, and does what it asks.
+fn handle<E: Element, D: Digest, O: Channel>(
+    digest: &D,
+    round: &mut Round,
+    elements: &mut [E],
+    digests: &mut [u64],
+    frame: &[u8],
+    out: &mut O,
+) -> Result<Answer, Refusal>
+    requires { ⌜ fitting (replica-of (now round) (now elements) (now digests)) ≡ true ⌝ }
+    ensures { λ r. ⌜ Judged (E·Element .model) (D·Digest .function (now (digest .entry))) (O·Channel .link) (decoded (E·Element .model) (now (round .entry) .size) (now (frame .entry))) (replica-of (now (round .entry)) (now (elements .entry)) (now (digests .entry))) (replica-of (now (round .exit)) (now (elements .exit)) (now (digests .exit))) (now (out .entry)) (now (out .exit)) r ⌝ }
+{
+    let message = decode::<E>(usize::from(round.size), frame)?;
+    react(digest, round, elements, digests, message, out)
+}
+
+// Takes what comes from the incoming channel and handles it.
+pub(crate) fn step<E: Element, D: Digest, I: Channel, O: Channel>(
+    digest: &D,
+    round: &mut Round,
+    elements: &mut [E],
+    digests: &mut [u64],
+    from: &mut I,
+    out: &mut O,
+) -> Result<Answer, Refusal>
+    ensures { λ r. ⌜ Steps (E·Element .model) (D·Digest .function (now (digest .entry))) (O·Channel .link) (I·Channel .link) (replica-of (now (round .entry)) (now (elements .entry)) (now (digests .entry))) (replica-of (now (round .exit)) (now (elements .exit)) (now (digests .exit))) (now (from .entry)) (now (from .exit)) (now (out .entry)) (now (out .exit)) r ⌝ }
+{
+    if !tables_fit(round, elements, digests) {
+        return Err(Refusal::Size);
+    }
+    let Some(packet) = from.take() else {
+        return Ok(Answer::Nothing);
+    };
+    handle(digest, round, elements, digests, packet.as_bytes(), out)
 }
