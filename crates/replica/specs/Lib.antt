@@ -3,3 +3,4 @@ pub mod Rounds
 pub mod Replicas
 pub mod Calls
 pub mod Steps
+pub mod Pairs

@@ -103,8 +103,7 @@ module _ {R : Type 0} (m : Model R) (h : List ℕ → ℕ) {O : Type 0} (l : Lin
 
   module _ {I : Type 0} (j : Link I) where
     -- A step takes what comes from the incoming channel, and handles it.
-    pub record Takes (s t : Replica R) (a b : I) (c d : O) (y : Result Answer Refusal) : Type 0 where
-      pub got : Option (List ℕ)
+    pub record Takes (got : Option (List ℕ)) (s t : Replica R) (a b : I) (c d : O) (y : Result Answer Refusal) : Type 0 where
       pub taken : j .takes a got b
       pub handled : Handled got s t c d y
 
@@ -113,5 +112,9 @@ module _ {R : Type 0} (m : Model R) (h : List ℕ → ℕ) {O : Type 0} (l : Lin
       pub declined : Declined Size s t c d y
       pub incoming : b ≡ a
 
-    abbrev pub Steps : Replica R → Replica R → I → I → O → O → Result Answer Refusal → Type 0
-    Steps s t a b c d y = Where (fitting s) (Takes s t a b c d y) (Refused s t a b c d y)
+    abbrev pub Steps-with : Option (List ℕ) → Replica R → Replica R → I → I → O → O → Result Answer Refusal → Type 0
+    Steps-with got s t a b c d y = Where (fitting s) (Takes got s t a b c d y) (Refused s t a b c d y)
+
+    pub record Steps (s t : Replica R) (a b : I) (c d : O) (y : Result Answer Refusal) : Type 0 where
+      pub got : Option (List ℕ)
+      pub does : Steps-with got s t a b c d y
