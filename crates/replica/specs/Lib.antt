@@ -4,3 +4,5 @@ pub mod Replicas
 pub mod Calls
 pub mod Steps
 pub mod Pairs
+pub mod Runs
+pub mod Promise
