@@ -1,4 +1,6 @@
 // Channels: what carries frames from one replica to another.
+#![tactic(auto)]
+
 ghost use Rattle.channel.specs.Links.{Link, Fair};
 ghost use Rattle.channel.specs.Packets.{arrived};
 

@@ -1,4 +1,6 @@
 // Tests of the channels, with two channels of its own: a new one needs only its link and the law.
+#![tactic(auto)]
+
 mod nowhere;
 mod relay;
 mod stack;

@@ -1,4 +1,6 @@
 // Two copies of a small table of mast cards, an office's and a laptop's, are joined key by key.
+#![tactic(auto)]
+
 mod copies;
 mod link;
 mod print;

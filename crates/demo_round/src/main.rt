@@ -1,5 +1,7 @@
 // An office's and a laptop's copy of four mast cards are brought together by one round, over couriers that repeat,
 // delay and lose frames.
+#![tactic(auto)]
+
 mod checks;
 mod copies;
 mod ends;

@@ -1,4 +1,6 @@
 // Digests: functions from byte strings to 64-bit numbers, by which two replicas compare ranges of keys.
+#![tactic(auto)]
+
 ghost use Rattle.std.specs.Prelude.{◌≡◌, ℕ, ◌*◌, ◌^◌, ◌<◌, List, bit_xor};
 ghost use Rattle.digest.specs.Folds.{fnv, sum, fnv_step, fnv_start};
 ghost use Rattle.std.proofs.Common.{mod-lt, arith};

@@ -1,4 +1,6 @@
 // Elements: what a key of a table holds.
+#![tactic(auto)]
+
 ghost use Rattle.std.specs.Prelude.{◌≡◌, length, is_some, nat_le};
 ghost use Rattle.element.specs.Bytes.{placed};
 ghost use Rattle.element.specs.Model.{Model, Laws};

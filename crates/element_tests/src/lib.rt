@@ -1,4 +1,6 @@
 // Tests of the elements, with an element and pairs of its own: a new one needs only its laws.
+#![tactic(auto)]
+
 mod pairs;
 mod peak;
 

@@ -1,4 +1,6 @@
 // Frames: the questions and answers of a round, and their bytes.
+#![tactic(auto)]
+
 mod decoding;
 mod encoding;
 mod fields;

@@ -1,4 +1,6 @@
 // Tests of frames. The expected bytes are put together by hand from the layout.
+#![tactic(auto)]
+
 #[cfg(test)]
 mod tests {
     use element::{Element, Refusal};

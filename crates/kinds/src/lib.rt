@@ -1,4 +1,6 @@
 // The elements that are supplied: registers, sets and counters, and the mast card made of them.
+#![tactic(auto)]
+
 mod card;
 mod counter;
 mod integers;

@@ -1,4 +1,6 @@
 // A pair of replicas with the channel toward each, and what is promised of every run of it.
+#![tactic(auto)]
+
 mod calls;
 mod end;
 mod making;

@@ -1,4 +1,6 @@
 // Replicas: so far the record of a round and the parts of the calls.
+#![tactic(auto)]
+
 mod answer;
 mod asking;
 mod making;

@@ -1,4 +1,6 @@
 // Tests of the calls of a replica, and of rounds between two replicas.
+#![tactic(auto)]
+
 #[cfg(test)]
 mod tests {
     use channel::{Channel, InOrder};

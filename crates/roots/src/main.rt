@@ -1,4 +1,6 @@
 // Builds the digest tree of 4,096 cards, changes some, renews their digests, and prints the roots.
+#![tactic(auto)]
+
 use digest::{Digest, Fnv, Sum};
 use element::{Element, Refusal, join_at};
 use kinds::{Card, Counter, Register, SetRecord, new_card};

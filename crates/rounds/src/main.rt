@@ -1,5 +1,7 @@
 // Runs whole rounds between two replicas and prints how they went. What is to be printed comes from an independent
 // simulation.
+#![tactic(auto)]
+
 mod orderly;
 mod pairs;
 mod scripted;

@@ -1,4 +1,6 @@
 // Ranges of keys, the order in which a round goes through them, and the digest tree over a table of elements.
+#![tactic(auto)]
+
 mod building;
 mod digests;
 mod renewing;

@@ -1,4 +1,6 @@
 // Tests of ranges and digest trees.
+#![tactic(auto)]
+
 #[cfg(test)]
 mod tests {
     use digest::{Fnv, Sum};

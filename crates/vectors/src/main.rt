@@ -4,6 +4,8 @@
 // The fnv of the first 25 lines are published vectors: of the empty string, of single letters and of the other prefixes
 // of "foobar", each of these also with a zero byte behind it, and of "chongo was here!\n". The fnv of the other lines,
 // and all sums, come from an independent computation. The last two lines are not hexadecimal.
+#![tactic(auto)]
+
 ghost use Rattle.std.specs.Prelude.{◌≡◌, ◌<◌, IfSome};
 ghost use Rattle.vectors.specs.Hex.{hex_value};
 

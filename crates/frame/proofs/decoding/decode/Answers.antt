@@ -6,34 +6,34 @@ use Rattle.frame.proofs.Codecs.{reads}
 use Rattle.frame.proofs.Judging.{Passes, taken, no_kind, no_length, no_round, no_range, no_element}
 use Rattle.frame.proofs.decoding.decode.Goals as goal
 
-pub returns-in-default : goal.returns-in-default
-returns-in-default g c =
+pub returns-in_default : goal.returns-in_default
+returns-in_default g c =
     let bs = c.args.frame.now in
     record {
       answer = (refl, no_kind g.E.Element.model c.args.size bs (grind (arith, nat_tests, get_or_past bs 0 0)));
       codec = reads g.met.E.Element.laws;
     }
 
-pub returns-in-default-2 : goal.returns-in-default-2
-returns-in-default-2 g c = record {
+pub returns-in_default-2 : goal.returns-in_default-2
+returns-in_default-2 g c = record {
   answer = (refl, no_length g.E.Element.model c.args.size c.args.frame.now (ne_eqb _ _ (λ e. omega arith)));
   codec = reads g.met.E.Element.laws;
 }
 
-pub returns-in-default-round : goal.returns-in-default-round
-returns-in-default-round g c = record {
+pub returns-in_default-round : goal.returns-in_default-round
+returns-in_default-round g c = record {
   answer = (refl, no_round g.E.Element.model c.args.size c.args.frame.now (lt-leb _ _ (omega arith)));
   codec = reads g.met.E.Element.laws;
 }
 
-pub returns-in-default-range-fits : goal.returns-in-default-range-fits
-returns-in-default-range-fits g c = record {
+pub returns-in_default-range-fits : goal.returns-in_default-range-fits
+returns-in_default-range-fits g c = record {
   answer = (refl, no_range g.E.Element.model c.args.size c.args.frame.now (sym c.in-default-range-fits.ensures));
   codec = reads g.met.E.Element.laws;
 }
 
-pub returns-in-default-element-fits : goal.returns-in-default-element-fits
-returns-in-default-element-fits g c = record {
+pub returns-in_default-element-fits : goal.returns-in_default-element-fits
+returns-in_default-element-fits g c = record {
   answer = (refl, no_element g.E.Element.model c.args.size c.args.frame.now (sym c.in-default-element-fits.ensures));
   codec = reads g.met.E.Element.laws;
 }

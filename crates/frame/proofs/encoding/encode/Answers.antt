@@ -6,8 +6,8 @@ use Rattle.frame.specs.Views.{viewed}
 use Rattle.frame.specs.declared.message.Message.{Message}
 use Rattle.frame.proofs.encoding.encode.Goals as goal
 
-pub returns-in-Compare : goal.returns-in-Compare
-returns-in-Compare c =
+pub returns-in_compare : goal.returns-in_compare
+returns-in_compare c =
     let out = c.args.out.now in
     let a = header 1 c.in-Compare.round c.in-Compare.range in
     let d = c.to-be-bytes.ensures ∙ eight_of c.in-Compare.digest in
