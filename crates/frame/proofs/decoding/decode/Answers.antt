@@ -26,15 +26,15 @@ returns-in_default-round g c = record {
   codec = reads g.met.E.Element.laws;
 }
 
-pub returns-in_default-range-fits : goal.returns-in_default-range-fits
-returns-in_default-range-fits g c = record {
-  answer = (refl, no_range g.E.Element.model c.args.size c.args.frame.now (sym c.in-default-range-fits.ensures));
+pub returns-in_default-range_fits : goal.returns-in_default-range_fits
+returns-in_default-range_fits g c = record {
+  answer = (refl, no_range g.E.Element.model c.args.size c.args.frame.now (sym c.in_default-range_fits.ensures));
   codec = reads g.met.E.Element.laws;
 }
 
-pub returns-in_default-element-fits : goal.returns-in_default-element-fits
-returns-in_default-element-fits g c = record {
-  answer = (refl, no_element g.E.Element.model c.args.size c.args.frame.now (sym c.in-default-element-fits.ensures));
+pub returns-in_default-element_fits : goal.returns-in_default-element_fits
+returns-in_default-element_fits g c = record {
+  answer = (refl, no_element g.E.Element.model c.args.size c.args.frame.now (sym c.in_default-element_fits.ensures));
   codec = reads g.met.E.Element.laws;
 }
 
@@ -43,9 +43,9 @@ returns g c =
     let bs = c.args.frame.now in
     let p : Passes g.E.Element.model c.args.size bs = record {
       kind = grind (arith, nat_tests);
-      long = eq-eqb _ _ (c.in-true.is ∙ c.kind_length.ensures);
+      long = eq-eqb _ _ (c.in-true.is ∙ c.length_of.ensures);
       round = le-leb _ _ (omega arith);
-      range = sym c.in-true-range-fits.ensures;
-      element = sym c.in-true-element-fits.ensures;
+      range = sym c.in-true-range_fits.ensures;
+      element = sym c.in-true-element_fits.ensures;
     } in
-    record { answer = taken g.E.Element.model c.args.size bs p ∙ ap Some (sym c.message-in.ensures); codec = reads g.met.E.Element.laws }
+    record { answer = taken g.E.Element.model c.args.size bs p ∙ ap Some (sym c.message_in.ensures); codec = reads g.met.E.Element.laws }

@@ -6,11 +6,11 @@ use Rattle.frame.specs.Views.{viewed}
 use Rattle.frame.specs.declared.message.Message.{Message}
 use Rattle.frame.proofs.encoding.encode.Goals as goal
 
-pub returns-in_compare : goal.returns-in_compare
-returns-in_compare c =
+pub returns-in-Compare : goal.returns-in-Compare
+returns-in-Compare c =
     let out = c.args.out.now in
     let a = header 1 c.in-Compare.round c.in-Compare.range in
-    let d = c.to-be-bytes.ensures ∙ eight_of c.in-Compare.digest in
+    let d = c.to_be_bytes.ensures ∙ eight_of c.in-Compare.digest in
     let e = ap (λ (xs : List ℕ). a ++ xs) d ∙ ap (λ (m : Message). written (viewed m)) (sym c.in-Compare.is) in
     record {
       count = c.put.ensures.count ∙ ap (λ (xs : List ℕ). room xs out) e;

@@ -15,9 +15,9 @@ pub loop-i-preserved : goal.loop-i-preserved
 loop-i-preserved c =
     let i = c.loop-i.i in
     let xs = c.args.seats.now in
-    let w = c.copy-from-slice.new.self in
+    let w = c.copy_from_slice.new.self in
     let n = get_or xs i 0 in
-    let e : w ≡ be 4 n = c.copy-from-slice.ensures.after ∙ c.to-be-bytes.ensures ∙ four_of n in (
+    let e : w ≡ be 4 n = c.copy_from_slice.ensures.after ∙ c.to_be_bytes.ensures ∙ four_of n in (
       length-put (4 * i) _ c.loop-i.bytes w (omega arith) (omega (arith, ap length e)) ∙ c.loop-i.invariant.0,
       take-put_mid (4 * i) _ c.loop-i.bytes w (4 * (i + 1)) (omega arith) (omega arith)
           ∙ ap₂ (λ (xs ys : List ℕ). xs ++ ys) c.loop-i.invariant.1 e

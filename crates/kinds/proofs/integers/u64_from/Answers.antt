@@ -3,4 +3,4 @@ use Rattle.element.specs.Numbers.{spelt_by_eight}
 use Rattle.kinds.proofs.integers.u64_from.Goals as goal
 
 pub returns : goal.returns
-returns c = c.from-be-bytes.ensures ∙ spelt_by_eight c.args.b.now c.requires
+returns c = c.from_be_bytes.ensures ∙ spelt_by_eight c.args.b.now c.requires

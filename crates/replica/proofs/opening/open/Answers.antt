@@ -7,4 +7,4 @@ pub ask-requires : goal.ask-requires
 ask-requires g c =
     let r = c.begin.new.self in
     let l = sized_low r.size r.powered in
-    (fits_as r.size c.args.round.now.size (length c.args.elements.now) (length c.args.digests.now) c.begin.ensures.size (sym c.if-not-tables-fit.ensures), omega arith)
+    (fits_as r.size c.args.round.now.size (length c.args.elements.now) (length c.args.digests.now) c.begin.ensures.size (sym c.if-not-tables_fit.ensures), omega arith)

@@ -5,11 +5,11 @@ use Rattle.tree.proofs.Sizing.{fit_parts, sized_low, sized_high}
 use Rattle.tree.proofs.Telling.{telling}
 use Rattle.tree.proofs.building.build.Goals as goal
 
-pub returns-then-not-tables-fit : goal.returns-then-not-tables-fit
-returns-then-not-tables-fit g c =
+pub returns-then-not-tables_fit : goal.returns-then-not-tables_fit
+returns-then-not-tables_fit g c =
     let m = g.E.Element.model in
     let h = g.D.Digest.function c.args.digest.now in
-    let e = sym c.if-not-tables-fit.ensures in
+    let e = sym c.if-not-tables_fit.ensures in
     record {
       answer = sym (cond-false _ _ _ e);
       after = sym (cond-false _ _ _ e);
@@ -19,7 +19,7 @@ returns-then-not-tables-fit g c =
 
 pub bounds-digests-0 : goal.bounds-digests-0
 bounds-digests-0 g c =
-    let e = sym c.if-not-tables-fit.ensures in
+    let e = sym c.if-not-tables_fit.ensures in
     let p = fit_parts (length c.args.elements.now) (length c.args.digests.now) e in
     let l = sized_low (length c.args.elements.now) p.0 in
     omega arith
@@ -29,12 +29,12 @@ returns g c =
     let m = g.E.Element.model in
     let h = g.D.Digest.function c.args.digest.now in
     let es = c.args.elements.now in
-    let e = sym c.if-not-tables-fit.ensures in
+    let e = sym c.if-not-tables_fit.ensures in
     let p = fit_parts (length es) (length c.args.digests.now) e in
     record {
       answer = sym (cond-true _ _ _ e);
       after =
-          assembled m h es c.fill-leaves.new.digests c.fill-nodes.new.digests (sized_low (length es) p.0) (sized_high (length es) p.0) (omega (arith, c.fill-nodes.auto.digests, c.fill-leaves.auto.digests)) c.fill-leaves.ensures c.fill-nodes.ensures.nodes c.fill-nodes.ensures.kept
+          assembled m h es c.fill_leaves.new.digests c.fill_nodes.new.digests (sized_low (length es) p.0) (sized_high (length es) p.0) (omega (arith, c.fill_nodes.auto.digests, c.fill_leaves.auto.digests)) c.fill_leaves.ensures c.fill_nodes.ensures.nodes c.fill_nodes.ensures.kept
           ∙ sym (cond-true _ _ _ e);
       merkle = λ xs s. merkle m h xs (sized_high (length xs) s);
       tells = telling m g.met.E.Element.laws h (g.met.D.Digest.small c.args.digest.now);

@@ -5,6 +5,6 @@ use Rattle.tree.proofs.digests.node_of.Goals as goal
 
 pub returns : goal.returns
 returns c =
-    let a = c.copy-from-slice.ensures.after ∙ c.to-be-bytes.ensures ∙ eight_of c.args.lower in
-    let b = c.copy-from-slice-2.ensures.after ∙ c.to-be-bytes-2.ensures ∙ eight_of c.args.upper in
+    let a = c.copy_from_slice.ensures.after ∙ c.to_be_bytes.ensures ∙ eight_of c.args.lower in
+    let b = c.copy_from_slice-2.ensures.after ∙ c.to_be_bytes-2.ensures ∙ eight_of c.args.upper in
     ap₂ (λ (xs ys : List ℕ). put_mid 9 8 (1 ∷ (xs ++ replicate 8 1)) ys) a b

@@ -5,6 +5,6 @@ use Rattle.kinds.proofs.set_record.SetRecord.to_bytes.Goals as goal
 
 pub returns : goal.returns
 returns c =
-    let a = c.copy-from-slice.ensures.after ∙ c.to-be-bytes.ensures ∙ eight_of c.args.self.added in
-    let b = c.copy-from-slice-2.ensures.after ∙ c.to-be-bytes-2.ensures ∙ eight_of c.args.self.removed in
+    let a = c.copy_from_slice.ensures.after ∙ c.to_be_bytes.ensures ∙ eight_of c.args.self.added in
+    let b = c.copy_from_slice-2.ensures.after ∙ c.to_be_bytes-2.ensures ∙ eight_of c.args.self.removed in
     ap₂ (λ (xs ys : List ℕ). put_mid 8 8 (xs ++ replicate 8 0) ys) a b
