@@ -69,11 +69,11 @@ fn react<E: Element, D: Digest, O: Channel>(
             Ok(Answer::Answered)
         }
         Message::Held {
-            round: r,
+            round: number,
             range,
             part,
         } => {
-            expect(round, r, range)?;
+            expect(round, number, range)?;
             let Some(x) = E::read(part) else {
                 unreachable()
             };
@@ -94,7 +94,9 @@ fn handle<E: Element, D: Digest, O: Channel>(
     requires { fitting (replica_of round.old elements.old digests.old) ≡ true }
     ensures { Judged E.Element.model (D.Digest.function digest.now) O.Channel.link (decoded E.Element.model round.old.size frame.now) (replica_of round.old elements.old digests.old) (replica_of round.new elements.new digests.new) out.old out.new result }
 {
-    let message = decode::<E>(usize::from(round.size), frame)?;
+    let Ok(message) = decode::<E>(usize::from(round.size), frame) else {
+        return Err(Refusal::Frame);
+    };
     react(digest, round, elements, digests, message, out)
 }
 
