@@ -1,4 +1,4 @@
-use Rattle.std.proofs.Common.{◌-◌, sym, ap, ◌∙◌, arith}
+use Rattle.std.proofs.Common.{sym, ap, ◌∙◌, arith}
 use Rattle.tree.proofs.Buffers.{after_zero}
 use Rattle.tree.proofs.digests.leaf.Goals as goal
 
