@@ -1,10 +1,10 @@
 -- Byte strings, as lists of numbers below 256, and integers in them: big-endian and unsigned.
 use Rattle.std.specs.Prelude.{ℕ, zero, suc, ◌+◌, ◌*◌, ◌/◌, ◌%◌, ◌^◌, ◌<◌, cond, List, [], ◌∷◌, ◌++◌, length, drop, nat_le}
-use Rattle.std.specs.List.{AllByRecursion as All}
+use Rattle.std.specs.List.{AllByRecursion}
 
 -- The numbers of bs are bytes.
 abbrev pub ByteString : List ℕ → Type 0
-ByteString bs = All (λ b. b < 256) bs
+ByteString bs = AllByRecursion (λ b. b < 256) bs
 
 -- The k lowest bytes of n, the highest of them first.
 abbrev pub be : ℕ → ℕ → List ℕ

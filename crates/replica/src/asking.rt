@@ -1,6 +1,6 @@
 // Questions, put to a channel.
 ghost use Rattle.std.specs.Prelude.{◌≡◌, ◌*◌, ◌<◌, ◌≤◌, true, length};
-ghost use Rattle.frame.specs.Frames.{written, compare as frame-compare, offer as frame-offer};
+ghost use Rattle.frame.specs.Frames.{written, compare as frame_compare, offer as frame_offer};
 ghost use Rattle.frame.specs.Views.{viewed};
 ghost use Rattle.replica.specs.Replicas.{fitting, question, replica_of};
 
@@ -45,7 +45,7 @@ pub(crate) fn ask<E: Element, D: Digest, O: Channel>(
 
 // Puts an offer of `x`.
 fn offer<E: Element, O: Channel>(round: u32, range: u16, x: &E, out: &mut O)
-    ensures { O.Channel.link.puts out.old (written (frame-offer round range (E.Element.model.written x.now))) out.new }
+    ensures { O.Channel.link.puts out.old (written (frame_offer round range (E.Element.model.written x.now))) out.new }
 {
     let mut bytes = [0; 64];
     let part = part_of(x, &mut bytes);
@@ -54,7 +54,7 @@ fn offer<E: Element, O: Channel>(round: u32, range: u16, x: &E, out: &mut O)
 
 // Puts a compare with a digest.
 fn compare<O: Channel>(round: u32, range: u16, digest: u64, out: &mut O)
-    ensures { O.Channel.link.puts out.old (written (frame-compare round range digest)) out.new }
+    ensures { O.Channel.link.puts out.old (written (frame_compare round range digest)) out.new }
 {
     send(Message::compare(round, range, digest), out);
 }

@@ -1,6 +1,6 @@
 // What a step does with a message.
 ghost use Rattle.std.specs.Prelude.{◌≡◌, ◌-◌, ◌*◌, ◌<◌, true, if◌then◌else◌, Some, Ok, nat_eq};
-ghost use Rattle.frame.specs.Frames.{written, same as Frame-same, differ as frame-differ, Single};
+ghost use Rattle.frame.specs.Frames.{written, same as frame_same, differ as frame_differ, Single};
 ghost use Rattle.tree.specs.Walk.{follow};
 ghost use Rattle.replica.specs.Replicas.{fitting, replica_of, absorbed};
 ghost use Rattle.replica.specs.Steps.{Proceeds, Offered};
@@ -17,7 +17,7 @@ use frame::Message;
 
 // Answers a compare: same where the digest sent is this replica's own, and differ otherwise.
 pub(crate) fn answer_compare<O: Channel>(round: u32, range: u16, sent: u64, own: u64, out: &mut O)
-    ensures { O.Channel.link.puts out.old (written (if nat_eq sent own then Frame-same round range else frame-differ round range)) out.new }
+    ensures { O.Channel.link.puts out.old (written (if nat_eq sent own then frame_same round range else frame_differ round range)) out.new }
 {
     if sent == own {
         send(Message::same(round, range), out);
