@@ -8,7 +8,7 @@ use Rattle.element.specs.declared.refusal.Refusal.TheVariants.{Size, Key, Busy, 
 use Rattle.frame.proofs.Codecs.{reads}
 use Rattle.frame.specs.Decoding.{decoded}
 use Rattle.frame.specs.Frames.{Frame, compare, same, differ, offer, held, written, Lawful}
-use Rattle.replica.specs.Calls.{runs, asked, current}
+use Rattle.replica.specs.Calls.{runs, current}
 use Rattle.replica.specs.Replicas.{Replica, fitting, with_progress, absorbed, question}
 use Rattle.replica.specs.Rounds.{State, idle, running, Progress, in_state, begun, moved_to, going}
 use Rattle.replica.specs.Steps.{awaits_at, awaits, count_of, Asks, Proceeds, Handled, Judged, Reacts, StepsWith}
@@ -151,7 +151,7 @@ module _ (S : Setting) where
           let wide = (b.shaped e).numbered in
           let at = ap (λ (t : Replica R). t.progress.state) does.0.after in
           opens refl (idle_of s.progress.state free.0) (omega arith) does.0.after
-          (put_adds p q (other e) _ (subst (λ (f : Frame). (S.L.link (other e)).puts (p.toward (other e)) (written f) (q.toward (other e))) (ap (asked S.m S.h (q.replica e)) at) does.0.puts))
+          (put_adds p q (other e) _ (subst (λ (f : Frame). (S.L.link (other e)).puts (p.toward (other e)) (written f) (q.toward (other e))) (ap (current S.m S.h (q.replica e)) at) does.0.puts))
   opened_acts e (Err z) p q b w =
       left_alone (opened e (Err z)) p q e w.here w.there (λ d. record { enters = λ j z. refl; takes = refl; opens = refl }) (equal_fewer p q e w.does.1) (equal_fewer p q (other e) w.does.0.puts)
 
@@ -165,7 +165,7 @@ module _ (S : Setting) where
       here =
           let does = done e u (resent e (Ok u)) p q w in
           let at = running_of s.progress.state (ok_cond (runs s.progress.state) u (Ok u) Idle (ok_cond (fitting s) u _ Size does.0.answer).1).0 in
-          let asks : current S.m S.h s ≡ question S.m S.h (q.replica e) at.0 = ap (asked S.m S.h s) at.2 ∙ ap (λ (t : Replica R). question S.m S.h t at.0) (sym does.1) in
+          let asks : current S.m S.h s s.progress.state ≡ question S.m S.h (q.replica e) at.0 = ap (current S.m S.h s) at.2 ∙ ap (λ (t : Replica R). question S.m S.h t at.0) (sym does.1) in
           resends at.0 at.1 refl at.2 does.1
           (put_adds p q (other e) _ (subst (λ (f : Frame). (S.L.link (other e)).puts (p.toward (other e)) (written f) (q.toward (other e))) asks does.0.puts))
   resent_acts e (Err z) p q w =

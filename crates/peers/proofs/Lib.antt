@@ -11,6 +11,5 @@ pub mod Costs
 pub mod Stirring
 pub mod Courses
 pub mod Promises
-pub mod Owning
 pub mod Calling
 pub mod Beginning

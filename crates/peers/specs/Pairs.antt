@@ -5,7 +5,8 @@ use Rattle.element.specs.Model.{Model}
 use Rattle.element.specs.declared.refusal.Refusal.{Refusal}
 use Rattle.tree.specs.Sizes.{fit}
 use Rattle.tree.specs.Tree.{build_after}
-use Rattle.replica.specs.Calls.{IfAccepted, made, Lays, Opens, Resends, Abandons}
+use Rattle.peers.specs.Calls.{Lays, Opens, Resends, Abandons}
+use Rattle.replica.specs.Calls.{IfAccepted, made}
 use Rattle.replica.specs.Replicas.{Replica}
 use Rattle.replica.specs.Steps.{StepsWith}
 use Rattle.replica.specs.declared.answer.Answer.{Answer}
@@ -75,7 +76,7 @@ module _ {R : Type 0} (m : Model R) (h : List ℕ → ℕ) (L : Lines) where
   Does (laid e k x y) p q s t = Lays m h k x y s t × Still p q
   Does (opened e y) p q s t = Opens m h (L.link (other e)) y s t (p.toward (other e)) (q.toward (other e)) × (q.toward e ≡ p.toward e)
   Does (resent e y) p q s t = Resends m h (L.link (other e)) y s (p.toward (other e)) (q.toward (other e)) × (t ≡ s) × (q.toward e ≡ p.toward e)
-  Does (abandoned e y) p q s t = Abandons y s t × Still p q
+  Does (abandoned e y) p q s t = Abandons m h y s t × Still p q
   Does (stepped e got y) p q s t = StepsWith m h (L.link (other e)) (L.link e) got s t (p.toward e) (q.toward e) (p.toward (other e)) (q.toward (other e)) y
   Does lost p q s t = ⊥
 

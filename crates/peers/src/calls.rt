@@ -48,18 +48,18 @@ impl<E: Element, D: Digest, A: Channel, B: Channel> Peers<E, D, A, B> {
         ensures { Goes A.Channel.link B.Channel.link E.Element.model D.Digest.function end (abandoned end result) self.old self.new }
     {
         match end {
-            End::Left => self.left.abandon(),
-            End::Right => self.right.abandon(),
+            End::Left => self.left.abandon(&self.digest),
+            End::Right => self.right.abandon(&self.digest),
         }
     }
 
     // What a key holds.
     pub fn show(&self, end: End, key: usize) -> Result<E, Refusal>
-        ensures { result ≡ show_answer E.Element.model (replicas A.Channel.link B.Channel.link self.now end) key }
+        ensures { result ≡ show_answer E.Element.model (D.Digest.function self.now.digest) (replicas A.Channel.link B.Channel.link self.now end) key }
     {
         match end {
-            End::Left => self.left.show(key),
-            End::Right => self.right.show(key),
+            End::Left => self.left.show(&self.digest, key),
+            End::Right => self.right.show(&self.digest, key),
         }
     }
 

@@ -1,6 +1,7 @@
 // The calls of a replica that owns its tables.
 ghost use Rattle.std.specs.Prelude.{◌≡◌};
-ghost use Rattle.replica.specs.Calls.{Lays, Opens, Resends, Abandons, show_answer};
+ghost use Rattle.peers.specs.Calls.{Lays, Opens, Resends, Abandons};
+ghost use Rattle.replica.specs.Calls.{show_answer};
 ghost use Rattle.replica.specs.Steps.{Steps};
 ghost use Rattle.peers.specs.States.{owned};
 
@@ -24,10 +25,11 @@ impl<E: Element> Owner<E> {
         )
     }
 
-    pub(crate) fn show(&self, key: usize) -> Result<E, Refusal>
-        ensures { result ≡ show_answer E.Element.model (owned self.now) key }
+    pub(crate) fn show<D: Digest>(&self, digest: &D, key: usize) -> Result<E, Refusal>
+        ensures { result ≡ show_answer E.Element.model (D.Digest.function digest.now) (owned self.now) key }
     {
         show(
+            digest,
             &self.round,
             self.elements.as_slice(),
             self.digests.as_slice(),
@@ -67,10 +69,11 @@ impl<E: Element> Owner<E> {
         )
     }
 
-    pub(crate) fn abandon(&mut self) -> Result<(), Refusal>
-        ensures { Abandons result (owned self.old) (owned self.new) }
+    pub(crate) fn abandon<D: Digest>(&mut self, digest: &D) -> Result<(), Refusal>
+        ensures { Abandons E.Element.model (D.Digest.function digest.now) result (owned self.old) (owned self.new) }
     {
         abandon(
+            digest,
             &mut self.round,
             self.elements.as_slice(),
             self.digests.as_slice(),

@@ -1,4 +1,5 @@
-// Replicas: so far the record of a round and the parts of the calls.
+// A replica of a collection: an element table, a digest table, and the record of its round. Its owner keeps the tables
+// and hands both to each call.
 #![tactic(auto)]
 
 mod answer;
@@ -10,3 +11,10 @@ mod round;
 mod rounds;
 mod stepping;
 mod tables;
+
+pub use answer::Answer;
+pub use making::make;
+pub use opening::{abandon, open, resend};
+pub use round::Round;
+pub use stepping::step;
+pub use tables::{lay, show};

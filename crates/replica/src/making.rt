@@ -9,7 +9,7 @@ use element::{Element, Refusal};
 use tree::build;
 
 // Builds the digest table over the elements that it finds, and answers an idle record.
-pub(crate) fn make<E: Element, D: Digest>(
+pub fn make<E: Element, D: Digest>(
     digest: &D,
     elements: &[E],
     digests: &mut [u64],

@@ -12,7 +12,7 @@ use digest::Digest;
 use element::{Element, Refusal};
 
 // Takes the next round number and asks about range 1.
-pub(crate) fn open<E: Element, D: Digest, O: Channel>(
+pub fn open<E: Element, D: Digest, O: Channel>(
     digest: &D,
     round: &mut Round,
     elements: &[E],
@@ -38,7 +38,7 @@ pub(crate) fn open<E: Element, D: Digest, O: Channel>(
 }
 
 // Puts the question of the running range as it stands now.
-pub(crate) fn resend<E: Element, D: Digest, O: Channel>(
+pub fn resend<E: Element, D: Digest, O: Channel>(
     digest: &D,
     round: &Round,
     elements: &[E],
@@ -59,7 +59,7 @@ pub(crate) fn resend<E: Element, D: Digest, O: Channel>(
 }
 
 // Gives the round up. Its number stays used.
-pub(crate) fn abandon<E: Element, D: Digest>(
+pub fn abandon<E: Element, D: Digest>(
     digest: &D,
     round: &mut Round,
     elements: &[E],

@@ -101,7 +101,7 @@ fn handle<E: Element, D: Digest, O: Channel>(
 }
 
 // Takes what comes from the incoming channel and handles it.
-pub(crate) fn step<E: Element, D: Digest, I: Channel, O: Channel>(
+pub fn step<E: Element, D: Digest, I: Channel, O: Channel>(
     digest: &D,
     round: &mut Round,
     elements: &mut [E],

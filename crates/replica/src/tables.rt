@@ -41,7 +41,7 @@ pub(crate) fn absorb<E: Element, D: Digest>(
 }
 
 // Joins an element into a key, and renews the digests of its range and of those above.
-pub(crate) fn lay<E: Element, D: Digest>(
+pub fn lay<E: Element, D: Digest>(
     digest: &D,
     round: &Round,
     elements: &mut [E],
@@ -63,7 +63,7 @@ pub(crate) fn lay<E: Element, D: Digest>(
 }
 
 // What a key holds, as what its record stands for.
-pub(crate) fn show<E: Element, D: Digest>(
+pub fn show<E: Element, D: Digest>(
     digest: &D,
     round: &Round,
     elements: &[E],

@@ -8,9 +8,7 @@ mod tests {
     use element::{Element, Refusal};
     use kinds::{Register, SetRecord};
     use peers::{End, Peers, Start};
-    use replica::{
-        Answer, AnswerDebug, AnswerPartialEq, Round, abandon, lay, make, open, resend, show, step,
-    };
+    use replica::{Answer, Round, abandon, lay, make, open, resend, show, step};
     use std::alloc::Global;
     use std::test::Fail;
 
@@ -94,7 +92,7 @@ mod tests {
         }
 
         fn show(&self, key: usize) -> Result<Register, Refusal> {
-            show(&self.round, &self.elements, &self.digests, key)
+            show(&Fnv, &self.round, &self.elements, &self.digests, key)
         }
 
         fn open(&mut self) -> Result<(), Refusal> {
@@ -118,7 +116,7 @@ mod tests {
         }
 
         fn abandon(&mut self) -> Result<(), Refusal> {
-            abandon(&mut self.round, &self.elements, &self.digests)
+            abandon(&Fnv, &mut self.round, &self.elements, &self.digests)
         }
 
         // A step, after the other replica has put this frame.

@@ -12,14 +12,14 @@ promised g d =
     promise g.E.Element.model g.met.E.Element.laws (g.D.Digest.function d) (g.met.D.Digest.small d)
     (lines g.A.Channel.link g.B.Channel.link) (elim [ left ↦ g.met.A.Channel.fair | right ↦ g.met.B.Channel.fair ])
 
-pub returns-in_left : goal.returns-in_left
-returns-in_left g c = record {
+pub returns-in-Left : goal.returns-in-Left
+returns-in-Left g c = record {
   goes = stepped_goes g.A.Channel.link g.B.Channel.link g.E.Element.model g.D.Digest.function _ _ left c.step.result refl c.step.ensures refl c.in-Left.is;
   promise = promised g c.args.self.now.digest;
 }
 
-pub returns-in_right : goal.returns-in_right
-returns-in_right g c = record {
+pub returns-in-Right : goal.returns-in-Right
+returns-in-Right g c = record {
   goes = stepped_goes g.A.Channel.link g.B.Channel.link g.E.Element.model g.D.Digest.function _ _ right c.step-in-Right.result refl c.step-in-Right.ensures refl c.in-Right.is;
   promise = promised g c.args.self.now.digest;
 }
