@@ -5,7 +5,6 @@ mod nowhere;
 mod relay;
 mod stack;
 
-use channel::Channel;
 pub use nowhere::Nowhere;
 pub use relay::pass_on;
 pub use stack::Stack;

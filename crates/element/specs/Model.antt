@@ -19,8 +19,8 @@ pub record Model (R : Type 0) : Type 0 where
   -- the record of the element that has these bytes, or none where they are not lawful
   pub parsed : List ℕ → Option R
 
--- The laws ask that join and bytes see only what a record stands for: join by `join-sees`, bytes by `read_back` and
--- `write-back`. So they hold of all records, also of those that break a rule.
+-- The laws ask that join and bytes see only what a record stands for: join by `join_sees`, bytes by `read_back` and
+-- `write_back`. So they hold of all records, also of those that break a rule.
 pub record Laws {R : Type 0} (m : Model R) : Type 0 where
   -- the width is from 1 to 64
   pub width_low : 1 ≤ m.width

@@ -5,11 +5,11 @@ use Rattle.element.specs.declared.refusal.Refusal.{Refusal}
 use Rattle.element.specs.declared.refusal.Refusal.TheVariants.{Key}
 
 module _ {R : Type 0} (m : Model R) (table : List R) (key : ℕ) (x : R) where
-  -- What the key then holds. `get_or` answers its default, bottom, where there is no such key.
+  -- What the key then holds. `slice_index_or` answers its default, bottom, where there is no such key.
   abbrev pub held_at : R
   held_at = m.joined (slice_index_or table key m.bottom) x
 
-  -- The table then: no other key has changed. `set` past the end changes nothing, so where there is no such key the
+  -- The table then: no other key has changed. `slice_set` past the end changes nothing, so where there is no such key the
   -- whole table is as it was.
   abbrev pub joined_at : List R
   joined_at = slice_set table key held_at

@@ -1,7 +1,7 @@
 // The pair of two elements, part by part.
 ghost use Rattle.std.specs.Prelude.{◌+◌, ◌≤◌};
 ghost use Rattle.element.specs.Pairs.{pair};
-ghost use Rattle.element.specs.PairsLemmas as Pairs;
+ghost use Rattle.element.specs.PairsLemmas;
 
 use crate::Element;
 
@@ -20,7 +20,7 @@ pub trait Beside<Y: Element>: Element {
 impl<X: Element + Beside<Y>, Y: Element> Element for Pair<X, Y> {
     ghost model = { pair X.Element.model Y.Element.model };
 
-    ghost laws = { Pairs.laws X.Element.laws Y.Element.laws X.Beside.room };
+    ghost laws = { PairsLemmas.laws X.Element.laws Y.Element.laws X.Beside.room };
 
     fn bottom() -> Pair<X, Y> {
         Pair {

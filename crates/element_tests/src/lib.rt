@@ -4,7 +4,6 @@
 mod pairs;
 mod peak;
 
-use element::Element;
 pub use pairs::{Watched, Widest};
 pub use peak::Peak;
 
