@@ -1,7 +1,7 @@
 #!/usr/bin/env python3
 """Respells this repository's own antt names as today's Rattle spells them: words in snake case, types in camel case.
 
-usage: python3 tools/respell.py            at the top of the repository, right after port.py, once
+usage: python3 tools/respell.py            at the top of the repository, once, after the toolchain's own script
 
 A name is the repository's own where a file of specs/ or proofs/ declares it; the answers of a function's goals
 (proofs/F/Answers.antt and its like) are named by the checker and stay. Only specs/, proofs/ and the clauses of src/

@@ -2,6 +2,7 @@ pub mod Links
 pub mod Packets
 pub mod Queues
 pub mod Couriers
-pub mod Picking
+-- lemmas for the laws that the implementations show
 pub mod Members
 pub mod Queueing
+pub mod Picking

@@ -5,6 +5,7 @@ pub mod Ruled
 pub mod Pairs
 pub mod Refusals
 pub mod Tables
-pub mod PairsLemmas
-pub mod Numbers
+-- lemmas for the laws that the implementations show
 pub mod Options
+pub mod Numbers
+pub mod PairsLemmas

@@ -3,7 +3,8 @@ pub mod Masks
 pub mod Sets
 pub mod Counters
 pub mod Cards
-pub mod CountersLemmas
+-- lemmas for the laws that the implementations show
+pub mod Unions
 pub mod RegistersLemmas
 pub mod SetsLemmas
-pub mod Unions
+pub mod CountersLemmas

@@ -67,9 +67,9 @@ module _ (S : Setting) where
     pub opens : opens_at e v ≡ false
 
   -- The question of the range that comes next is put to the channel toward the other end.
-  abbrev pub Goes_on : Option ℕ → Peers S → Peers S → End → Type 0
-  Goes_on None p q e = Fewer S p q (other e)
-  Goes_on (Some j) p q e = Adds S p q (other e) (question S.m S.h (q.replica e) j)
+  abbrev pub GoesOn : Option ℕ → Peers S → Peers S → End → Type 0
+  GoesOn None p q e = Fewer S p q (other e)
+  GoesOn (Some j) p q e = Adds S p q (other e) (question S.m S.h (q.replica e) j)
 
   -- An answer f to the question of range i is taken, and the round proceeds from the replica s.
   pub record Proceeded (v : Event R) (p q : Peers S) (e : End) (f : Frame) (r i c : ℕ) (next : Option ℕ) (s : Replica R) : Type 0 where
@@ -78,7 +78,7 @@ module _ (S : Setting) where
     pub number : (p.replica e).progress.last ≡ r
     pub state : (p.replica e).progress.state ≡ running i c
     pub after : q.replica e ≡ with_progress s (in_state s.progress (moved_to c next))
-    pub goes : Goes_on next p q e
+    pub goes : GoesOn next p q e
 
   pub data Act (v : Event R) (p q : Peers S) (e : End) : Type 0 where
     rests : q.replica e ≡ p.replica e → Silent v e → Fewer S p q (other e) → Act v p q e
@@ -202,7 +202,7 @@ module _ (S : Setting) where
       abbrev t : Replica R
       t = q.replica e
 
-      goes_on : (next : Option ℕ) → Asks S.m S.h (S.L.link out) next t (p.toward out) (q.toward out) → Goes_on next p q e
+      goes_on : (next : Option ℕ) → Asks S.m S.h (S.L.link out) next t (p.toward out) (q.toward out) → GoesOn next p q e
       goes_on None k = equal_fewer p q out k
       goes_on (Some j) k = put_adds p q out _ k
 

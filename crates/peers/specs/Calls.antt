@@ -1,25 +1,15 @@
--- What each call of a replica does: all that the clauses of its contract say, as one relation. It goes by what the call
--- answers (y), from the replica s that it is handed to t, which it leaves; and from the outgoing channel c to d, where it
--- puts a frame.
-use Rattle.std.specs.Prelude.{◌≡◌, ℕ, ◌^◌, ◌<◌, List, length, Result}
+-- What lay, open, resend and abandon do: all that the clauses of each one's contract say, as one relation. It goes by what
+-- the call answers (y), from the replica s that it is handed to t, which it leaves; and from the outgoing channel c to d,
+-- where it puts a frame. Step's contract is such a relation already.
+use Rattle.std.specs.Prelude.{◌≡◌, ℕ, List, Result}
 use Rattle.channel.specs.Links.{Link}
 use Rattle.element.specs.Model.{Model}
 use Rattle.element.specs.declared.refusal.Refusal.{Refusal}
-use Rattle.tree.specs.Tree.{build_after}
-use Rattle.replica.specs.Calls as calls
 use Rattle.replica.specs.Calls.{if_ok, lay_answer, open_answer, running_answer, current, Puts}
 use Rattle.replica.specs.Replicas.{Replica, with_progress, absorbed}
 use Rattle.replica.specs.Rounds.{idle, in_state, begun}
-use Rattle.replica.specs.declared.round.Round.{Round}
 
 module _ {R : Type 0} (m : Model R) (h : List ℕ → ℕ) where
-  -- Make over the elements es, from the digest table ds to fs: it builds the digest tree, or declines other sizes with
-  -- nothing written. The number that it is told has 32 bits.
-  pub record Makes (last : ℕ) (y : Result Round Refusal) (es : List R) (ds fs : List ℕ) : Type 0 where
-    pub numbered : last < 2 ^ 32
-    pub answer : calls.Makes (length es) (length ds) last y
-    pub after : fs ≡ build_after m h es ds
-
   -- Lay joins an element into a key.
   pub record Lays (k : ℕ) (x : R) (y : Result (Unit {0}) Refusal) (s t : Replica R) : Type 0 where
     pub answer : y ≡ lay_answer m h s k

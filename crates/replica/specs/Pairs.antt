@@ -1,4 +1,4 @@
--- Two replicas and the channel toward each, and what can happen to them.
+-- Two replicas and the channel toward each, and what can happen to them (for the earlier statement of `Promise`).
 use Rattle.std.specs.Prelude.{◌≡◌, ℕ, ◌^◌, ◌<◌, Bool, true, false, List, length, Option, Result}
 use Rattle.channel.specs.Links.{Link, Arrives}
 use Rattle.element.specs.Model.{Model}

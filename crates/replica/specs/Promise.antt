@@ -1,4 +1,5 @@
--- What is to hold of every run of a pair: stated, and not proved yet. No contract cites it.
+-- What is to hold of every run of a pair: an earlier statement, with `Pairs` and `Runs` beside it, which no contract cites.
+-- The one that is proved, and that the contract of `Peers::step` states, is `crates/peers/specs/Promise.antt`.
 use Rattle.std.specs.Prelude.{◌≡◌, ℕ, zero, suc, ◌+◌, ◌-◌, ◌*◌, ◌^◌, ◌<◌, ◌≤◌, Bool, cond, ◌||◌, ◌⊎◌, List, Ok, Option}
 use Rattle.element.specs.Model.{Model}
 use Rattle.element.specs.Order.{AtMost}

@@ -1,4 +1,5 @@
--- A run of a pair: its moments, numbered from 0, and what was entered, asked and answered in it.
+-- A run of a pair: its moments, numbered from 0, and what was entered, asked and answered in it (for the earlier
+-- statement of `Promise`).
 use Rattle.std.specs.Prelude.{◌≡◌, ℕ, zero, suc, ◌+◌, ◌<◌, Bool, true, false, cond, not, ◌&&◌, ◌||◌, List, [], ◌∷◌, length, Some, Ok, Err, ◌==◌, slice_index_or}
 use Rattle.element.specs.Model.{Model}
 use Rattle.frame.specs.Decoding.{decoded}

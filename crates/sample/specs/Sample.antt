@@ -16,7 +16,7 @@ use Rattle.peers.specs.declared.end.End.TheVariants.{Left as left, Right as righ
 use Rattle.replica.specs.declared.answer.Answer.{Answer}
 use Rattle.replica.specs.declared.answer.Answer.TheVariants.{Answered, Moved, Complete}
 
--- Two in_order channels. Each is the list of the frames that wait in it.
+-- Two in-order channels. Each is the list of the frames that wait in it.
 abbrev pub in_order : Lines
 in_order = lines (queue (λ (ws : List (List ℕ)). ws)) (queue (λ (ws : List (List ℕ)). ws))
 
