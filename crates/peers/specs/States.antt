@@ -28,11 +28,11 @@ fresh m h s = record { progress = made (length (vec_items s.elements)) s.last; e
 abbrev pub size_of : {E : Type 0} → Start E → ℕ
 size_of s = length (vec_items s.elements)
 
--- One replica is made of a start that has a size, if there is memory.
+-- One replica is made of a start that has a size, if there is memory. Sizes are judged first.
 abbrev pub Owns : {E : Type 0} → Model E → (List ℕ → ℕ) → Start E → Result (Owner E) Unmade → Type 0
 Owns m h s (Ok o) = (sized (size_of s) ≡ true) × (owned o ≡ fresh m h s) × (s.last < 2 ^ 32)
 Owns m h s (Err (Refused z)) = (sized (size_of s) ≡ false) × (z ≡ Size)
-Owns m h s (Err Memory) = Unit {0}
+Owns m h s (Err Memory) = sized (size_of s) ≡ true
 
 module _ {E D A B : Type 0} (a : Link A) (b : Link B) where
   abbrev pub replicas : Peers E D A B → End → Replica E
@@ -58,13 +58,14 @@ module _ {E D A B : Type 0} (a : Link A) (b : Link B) where
     pub got : Option (List ℕ)
     pub goes : Goes m function e (stepped e got y) p q
 
-  -- A pair is made of two starts of one size, if there is memory: fresh replicas, and the channels that were given.
+  -- A pair is made of two starts of one size, if there is memory: fresh replicas, and the channels that were given. Sizes
+  -- are judged first.
   abbrev pub MakesPair : Model E → (D → List ℕ → ℕ) → D → Start E → Start E → A → B → Result (Peers E D A B) Unmade → Type 0
   MakesPair m function d l r i o (Ok p) =
       (p.digest ≡ d) × (owned p.left ≡ fresh m (function d) l) × (owned p.right ≡ fresh m (function d) r) × (p.to_left ≡ i) × (p.to_right ≡ o)
       × (sized (size_of l) ≡ true) × (size_of r ≡ size_of l)
   MakesPair m function d l r i o (Err (Refused z)) = ((sized (size_of l) && size_of l == size_of r) ≡ false) × (z ≡ Size)
-  MakesPair m function d l r i o (Err Memory) = Unit {0}
+  MakesPair m function d l r i o (Err Memory) = (sized (size_of l) && size_of l == size_of r) ≡ true
 
   -- Where nothing may arrive from its channels, a run may begin with it.
   abbrev pub Begun : Model E → (D → List ℕ → ℕ) → Result (Peers E D A B) Unmade → Type 0

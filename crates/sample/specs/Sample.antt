@@ -28,6 +28,10 @@ entry = register_of 7 2 3050
 abbrev pub took : End → Frame → Result Answer Refusal → Event Register
 took e f y = stepped e (Some (written f)) y
 
+-- The count of the report.
+abbrev pub reported : ℕ
+reported = 5
+
 -- The events: the left end lays the element at key 2, and its first round brings it to the right end. The first question
 -- is sent twice, so the second answer to it is stale.
 abbrev pub sample_events : List (Event Register)
@@ -46,7 +50,7 @@ sample_events =
     ∷ took right (offer 1 6 (register_bytes entry)) (Ok Answered)
     ∷ took left (held 1 6 (register_bytes entry)) (Ok (Moved 7))
     ∷ took right (offer 1 7 (register_bytes register.bottom)) (Ok Answered)
-    ∷ took left (held 1 7 (register_bytes register.bottom)) (Ok (Complete 5))
+    ∷ took left (held 1 7 (register_bytes register.bottom)) (Ok (Complete reported))
     ∷ []
 
 -- Event t of them.
@@ -62,6 +66,6 @@ pub record Sample : Type 0 where
   pub at_first : (e : End) → holds run 0 e 2 ≡ register.bottom
   pub at_last : (e : End) → holds run 15 e 2 ≡ entry
   -- the count of the report is the most that the promise allows
-  pub count_is_bound : 5 ≡ 1 + 2 * 2 * tally (stirred run 1 14) 4
+  pub count_is_bound : reported ≡ 1 + 2 * 2 * tally (stirred run 1 14) 4
   -- the round, from its opening to its report, has no collision
   pub no_collision : Collision run left 1 1 14 → ⊥

@@ -1,5 +1,5 @@
 use Rattle.sample.proofs.Samples.{sample}
 use Rattle.sample.proofs.sample_run.Goals as goal
 
-pub returns : goal.returns
-returns c = sample
+pub returns-clause-run : goal.returns-clause-run
+returns-clause-run c = sample
