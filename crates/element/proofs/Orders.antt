@@ -2,7 +2,7 @@
 use Rattle.std.proofs.Common.{◌≡◌, sym, ap, ◌∙◌}
 use Rattle.element.specs.Model.{Model, Laws}
 use Rattle.element.specs.Order.{Same, Order}
-use Rattle.element.specs.Options.{same_some}
+use Rattle.std.proofs.lemmas.Option.{same_Some}
 
 module _ {R : Type 0} {m : Model R} (l : Laws m) where
   -- join sees only what its second argument stands for, too
@@ -17,7 +17,7 @@ module _ {R : Type 0} {m : Model R} (l : Laws m) where
   same_written x y h = sym (written_means x) ∙ ap m.written h.is ∙ written_means y
 
   pub written_same : (x y : R) → m.written x ≡ m.written y → Same m x y
-  written_same x y e = record { is = same_some (sym (l.read_back x) ∙ ap m.parsed e ∙ l.read_back y) }
+  written_same x y e = record { is = same_Some _ _ (sym (l.read_back x) ∙ ap m.parsed e ∙ l.read_back y) }
 
   pub order : Order m
   order = record {

@@ -1,10 +1,10 @@
 -- The laws of an element type whose records have a rule, from what holds of the records that keep it.
 use Rattle.std.proofs.Common.{◌≡◌, ℕ, ◌≤◌, true, false, ◌&&◌, eqb, List, length, Some, None, sym, ap, ◌∙◌, ⊎_elim}
 use Rattle.std.proofs.lemmas.Bool.{cases_Bool, cond-true, cond-false, and_from, and_parts, eq-eqb, eqb-true}
+use Rattle.std.proofs.lemmas.Option.{cond_some}
 use Rattle.element.specs.Bytes.{ByteString}
 use Rattle.element.specs.Model.{Laws}
 use Rattle.element.specs.Ruled.{Ruled, ruled, meant}
-use Rattle.element.specs.Options.{same_some, when_some}
 
 -- What is to be shown of a new type of this kind.
 pub record Sound {R : Type 0} (k : Ruled R) : Type 0 where
@@ -54,9 +54,9 @@ module _ {R : Type 0} {k : Ruled R} (s : Sound k) where
 
   write_back : (bs : List ℕ) → ByteString bs → (x : R) → (ruled k).parsed bs ≡ Some x → (ruled k).written x ≡ bs
   write_back bs o x h =
-      let p = when_some (eqb (length bs) k.width && k.keeps (k.spelt bs)) (Some (k.spelt bs)) x h in
+      let p = cond_some (eqb (length bs) k.width && k.keeps (k.spelt bs)) (k.spelt bs) x h in
       let q = and_parts _ _ p.0 in
-      ap (λ (y : R). k.bytes (meant k y)) (sym (same_some p.1))
+      ap (λ (y : R). k.bytes (meant k y)) (sym p.1)
       ∙ ap k.bytes (keeps_meant (k.spelt bs) q.1)
       ∙ s.forth bs o (eqb-true _ _ q.0)
 

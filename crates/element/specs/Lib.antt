@@ -6,6 +6,5 @@ pub mod Pairs
 pub mod Refusals
 pub mod Tables
 -- lemmas for the laws that the implementations show
-pub mod Options
 pub mod Numbers
 pub mod PairsLemmas

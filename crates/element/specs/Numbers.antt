@@ -1,6 +1,6 @@
 -- Byte strings and big-endian integers: the bytes of a number spell it, and a byte string is the bytes of the number that it spells.
 use Rattle.std.specs.Prelude.{◌≡◌, ℕ, zero, suc, ◌+◌, ◌*◌, ◌/◌, ◌%◌, ◌^◌, ◌<◌, List, [], ◌∷◌, ◌++◌, map, length, take, drop, slice_index, refl}
-use Rattle.std.proofs.Common.{sym, ap, ap₂, subst, ◌∙◌, pow-suc, mul_assoc, mul_comm, add-mul, mod-eq_of_lt, mod-lt, div-one, arith}
+use Rattle.std.proofs.Common.{sym, ap, ap₂, subst, ◌∙◌, pow-suc, mul_assoc, mul_comm, add-mul, mod-eq_of_lt, mod-lt, arith}
 use Rattle.std.proofs.Math.Nat.{add-mul-div_right, add-mul-mod_self_right}
 use Rattle.std.proofs.Math.Arith.{mod-mul}
 use Rattle.std.specs.List.{range_with_len}
@@ -104,7 +104,7 @@ pub spelt_below : (k : ℕ) (bs : List ℕ) → length bs ≡ k → ByteString b
 spelt_below k bs e h = subst (λ (n : ℕ). number bs < 256 ^ n) e (number_below bs h)
 
 -- a list of known length is known by its places
-by_places : (n : ℕ) (bs : List ℕ) → length bs ≡ n → map (λ k. slice_index bs k) (range_with_len 0 n) ≡ bs
+pub by_places : (n : ℕ) (bs : List ℕ) → length bs ≡ n → map (λ k. slice_index bs k) (range_with_len 0 n) ≡ bs
 by_places n bs l = sym (fill_by_all (λ k. slice_index bs k) bs n 0 l (λ k h. refl))
 
 -- a number by its four bytes, and by its eight
@@ -113,10 +113,3 @@ spelt_by_four bs l = omega arith ∙ ap number (by_places 4 bs l)
 
 pub spelt_by_eight : (bs : List ℕ) → length bs ≡ 8 → slice_index bs 0 * 72057594037927936 + slice_index bs 1 * 281474976710656 + slice_index bs 2 * 1099511627776 + slice_index bs 3 * 4294967296 + slice_index bs 4 * 16777216 + slice_index bs 5 * 65536 + slice_index bs 6 * 256 + slice_index bs 7 ≡ number bs
 spelt_by_eight bs l = omega arith ∙ ap number (by_places 8 bs l)
-
--- the bytes of a number as the machine gives them
-pub four_of : (n : ℕ) → (n / 16777216 % 256) ∷ (n / 65536 % 256) ∷ (n / 256 % 256) ∷ (n % 256) ∷ [] ≡ be 4 n
-four_of n = rw div-one
-
-pub eight_of : (n : ℕ) → (n / 72057594037927936 % 256) ∷ (n / 281474976710656 % 256) ∷ (n / 1099511627776 % 256) ∷ (n / 4294967296 % 256) ∷ (n / 16777216 % 256) ∷ (n / 65536 % 256) ∷ (n / 256 % 256) ∷ (n % 256) ∷ [] ≡ be 8 n
-eight_of n = rw div-one

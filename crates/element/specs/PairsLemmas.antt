@@ -1,19 +1,24 @@
 -- The laws of a pair, from those of its parts.
-use Rattle.std.specs.Prelude.{◌≡◌, ℕ, ◌+◌, ◌≤◌, List, ◌++◌, length, take, drop, Some, None, Option, ◌==◌}
-use Rattle.std.proofs.Common.{sym, ap, ap₂, ◌∙◌, arith, length-append, take-append-drop}
+use Rattle.std.specs.Prelude.{◌≡◌, ℕ, ◌+◌, ◌≤◌, Bool, true, false, cond, List, ◌++◌, length, take, drop, Some, None, Option, ◌==◌, refl}
+use Rattle.std.proofs.Common.{ap, ap₂, ◌∙◌, arith, length-append, take-append-drop}
 use Rattle.std.proofs.lemmas.List.{take_at, drop_at}
+use Rattle.std.proofs.lemmas.Option.{none-some}
 use Rattle.std.proofs.lemmas.Bool.{cond-true, eq-eqb}
 use Rattle.element.specs.Bytes.{ByteString}
 use Rattle.element.specs.Model.{Model, Laws}
 use Rattle.element.specs.Pairs.{pair, pair_of, both}
 use Rattle.element.specs.declared.pair.Pair.{Pair}
 use Rattle.element.specs.Numbers.{bytes_append, bytes_take, bytes_drop}
-use Rattle.element.specs.Options.{when_some}
+
+-- an answer that is given only under a condition
+when_some : {A : Type 0} (b : Bool) (p : Option A) (x : A) → cond b p None ≡ Some x → (b ≡ true) × (p ≡ Some x)
+when_some true p x h = (refl, h)
+when_some false p x h = absurd (none-some x h)
 
 both_parts : {A B : Type 0} (p : Option A) (q : Option B) (x : Pair A B) → both p q ≡ Some x → (p ≡ Some x.first) × (q ≡ Some x.second)
 both_parts (Some a) (Some b) x h = let e : pair_of a b ≡ x = cc in (ap (λ (y : Pair _ _). Some y.first) e, ap (λ (y : Pair _ _). Some y.second) e)
-both_parts (Some a) None x h = absurd (let z : ◌≡◌ {A = ℕ} 0 1 = cc in omega arith)
-both_parts None q x h = absurd (let z : ◌≡◌ {A = ℕ} 0 1 = cc in omega arith)
+both_parts (Some a) None x h = absurd (none-some x h)
+both_parts None q x h = absurd (none-some x h)
 
 module _ {A B : Type 0} {m : Model A} {n : Model B} (l : Laws m) (k : Laws n) where
   front : (x : Pair A B) → take m.width ((pair m n).written x) ≡ m.written x.first
@@ -55,8 +60,3 @@ module _ {A B : Type 0} {m : Model A} {n : Model B} (l : Laws m) (k : Laws n) wh
     read_back = read_back;
     write_back = write_back;
   }
-
--- What reading a pair answers, by what reading its parts answered.
-module _ {A B : Type 0} (m : Model A) (n : Model B) (bs : List ℕ) where
-  pub read_both : (p : Option A) (q : Option B) → length bs ≡ m.width + n.width → p ≡ m.parsed (take m.width bs) → q ≡ n.parsed (drop m.width bs) → both p q ≡ (pair m n).parsed bs
-  read_both p q l a b = ap₂ both a b ∙ sym (cond-true _ _ None (eq-eqb _ _ l))

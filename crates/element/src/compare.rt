@@ -8,6 +8,7 @@ use crate::Element;
 pub fn same<E: Element>(x: E, y: E) -> bool
     ensures { Decides result (Same E.Element.model x y) }
 {
+    // room for the widest element, zeros behind it: without a heap there is no buffer of just this type's width
     let mut left = [0; 64];
     let mut right = [0; 64];
     x.write(&mut left);

@@ -54,12 +54,9 @@ impl<X: Element + Beside<Y>, Y: Element> Element for Pair<X, Y> {
         if bytes.len() != n + Y::width() {
             return None;
         }
-        let Some(first) = X::read(&bytes[0..n]) else {
-            return None;
-        };
-        let Some(second) = Y::read(&bytes[n..]) else {
-            return None;
-        };
-        Some(Pair { first, second })
+        Some(Pair {
+            first: X::read(&bytes[..n])?,
+            second: Y::read(&bytes[n..])?,
+        })
     }
 }

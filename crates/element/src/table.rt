@@ -10,10 +10,7 @@ pub fn join_at<E: Element>(table: &mut [E], key: usize, x: E) -> Result<E, Refus
     ensures held { result ≡ answered_at E.Element.model table.old key x }
     ensures after { table.new ≡ joined_at E.Element.model table.old key x }
 {
-    if key >= table.len() {
-        return Err(Refusal::Key);
-    }
-    let held = table[key].join(x);
+    let held = table.get(key).ok_or(Refusal::Key)?.join(x);
     table[key] = held;
     Ok(held)
 }

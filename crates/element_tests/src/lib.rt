@@ -54,7 +54,7 @@ mod tests {
     fn a_set_keeps_its_rule(rt: HostRuntime) {
         assert!(rt; Set::new(4, 1).is_none());
         assert!(rt; Set::new(5, 1).is_some());
-        assert!(rt; set(4, 1).checked().is_none());
+        assert!(rt; Set::try_from(set(4, 1)).is_err());
         assert_eq!(rt; set(4, 1).as_set().masks(), (0, 0));
         assert_eq!(rt; set(5, 1).as_set().masks(), (5, 1));
         assert_eq!(rt; set(4, 1).join(set(2, 0)).added, 2);
@@ -77,7 +77,7 @@ mod tests {
         assert!(rt; SetRecord::read(&bytes).is_none());
         bytes[7] = 5;
         assert!(rt; SetRecord::lawful(&bytes));
-        assert!(rt; SetRecord::read(&bytes[0..15]).is_none());
+        assert!(rt; SetRecord::read(&bytes[..15]).is_none());
     }
 
     #[test]
@@ -115,13 +115,9 @@ mod tests {
         let mut bytes = [0; 62];
         assert!(rt; known_card().write(&mut bytes));
         assert!(rt; bytes == KNOWN);
-        match Card::read(&KNOWN) {
-            Some(card) => {
-                assert!(rt; same(card, known_card()));
-                Ok(())
-            },
-            None => Err(Fail::new("the bytes are lawful")),
-        }
+        let card = Card::read(&KNOWN).ok_or("the bytes are lawful")?;
+        assert!(rt; same(card, known_card()));
+        Ok(())
     }
 
     #[test]
@@ -133,9 +129,7 @@ mod tests {
         assert_eq!(rt; joined.second.first.added, 0);
         assert!(rt; joined.second.second.seats == whole.second.second.seats);
         let mut expected = KNOWN;
-        for i in 14..30 {
-            expected[i] = 0;
-        }
+        expected[14..30].fill(0);
         let mut bytes = [9; 62];
         assert!(rt; broken.write(&mut bytes));
         assert!(rt; bytes == expected);
@@ -154,19 +148,18 @@ mod tests {
     #[test]
     fn a_join_into_a_key_changes_that_key_alone(rt: HostRuntime) {
         let mut table = [Peak { value: 4 }, Peak { value: 4 }];
-        assert!(rt;
-            matches!(
-                join_at(&mut table, 1, Peak { value: 6 }),
-                Ok(Peak { value: 6 })
-            )
+        assert_eq!(rt;
+            join_at(&mut table, 1, Peak { value: 6 }),
+            Ok(Peak { value: 6 })
         );
-        assert!(rt;
-            matches!(
-                join_at(&mut table, 1, Peak { value: 5 }),
-                Ok(Peak { value: 6 })
-            )
+        assert_eq!(rt;
+            join_at(&mut table, 1, Peak { value: 5 }),
+            Ok(Peak { value: 6 })
         );
-        assert!(rt; matches!(join_at(&mut table, 2, Peak { value: 9 }), Err(Refusal::Key)));
+        assert_eq!(rt;
+            join_at(&mut table, 2, Peak { value: 9 }),
+            Err(Refusal::Key)
+        );
         assert_eq!(rt; table[0].value, 4);
         assert_eq!(rt; table[1].value, 6);
     }

@@ -8,7 +8,7 @@ ghost use Rattle.element_tests.specs.Peaking.{sound};
 use element::{Element, place};
 
 // The greatest level that was seen.
-#[derive(Clone, Copy)]
+#[derive(Clone, Copy, Default, PartialEq, Eq, PartialOrd, Ord, Debug)]
 pub struct Peak {
     pub value: u8,
 }
@@ -28,13 +28,11 @@ impl Element for Peak {
     ghost laws = { Rules.laws sound };
 
     fn bottom() -> Peak {
-        Peak { value: 0 }
+        Peak::default()
     }
 
     fn join(self, other: Peak) -> Peak {
-        Peak {
-            value: self.value.max(other.value),
-        }
+        self.max(other)
     }
 
     fn width() -> usize {

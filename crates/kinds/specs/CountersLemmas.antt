@@ -1,10 +1,9 @@
 -- The counter: the greater of two in each seat, and seats as words of four bytes.
-use Rattle.std.specs.Prelude.{◌≡◌, ℕ, zero, suc, ◌+◌, ◌*◌, ◌^◌, ◌<◌, max, true, false, List, [], ◌∷◌, ◌++◌, length, take, drop, replicate, nat_lt, slice_index, slice_set, refl}
-use Rattle.std.proofs.Common.{sym, ap, ap₂, ◌∙◌, add-one, arith, length-append, length-take, length-drop, take-append-drop}
+use Rattle.std.specs.Prelude.{◌≡◌, ℕ, zero, suc, ◌*◌, ◌^◌, ◌<◌, max, true, false, List, [], ◌∷◌, ◌++◌, length, take, drop, replicate, nat_lt, slice_index, refl}
+use Rattle.std.proofs.Common.{ap, ap₂, ◌∙◌, arith, length-append, length-take, length-drop, take-append-drop}
 use Rattle.std.proofs.Math.Nat.{max_comm}
-use Rattle.std.proofs.lemmas.List.{flat_map_more, take_more, drop-drop, append-nil, take_all, drop_all}
 use Rattle.std.proofs.lemmas.Bool.{and_from, and_parts, lt-ltb, ltb-true, both_ways}
-use Rattle.element.specs.Bytes.{ByteString, be, number}
+use Rattle.element.specs.Bytes.{ByteString, be}
 use Rattle.kinds.specs.Counters.{counter, counter_of, seated, maxima, words, words_in}
 use Rattle.element.specs.Numbers.{length_be, number_be, be_spelt, spelt_below, bytes_be, bytes_append, bytes_take, bytes_drop}
 use Rattle.element.proofs.Rules.{Sound}
@@ -58,37 +57,7 @@ seated_from zero (x ∷ xs) l h = absurd (omega arith)
 seated_from (suc n) [] l h = absurd (omega arith)
 seated_from (suc n) (x ∷ xs) l h = and_from _ _ (lt-ltb _ _ (h 0)) (seated_from n xs (omega arith) (λ i. h (suc i)))
 
--- one seat more of the join
-at_seat : (i : ℕ) (a b : List ℕ) → i < length a → i < length b → slice_set (maxima (take i a) (take i b) ++ drop i a) i (max (slice_index a i) (slice_index b i)) ≡ maxima (take (suc i) a) (take (suc i) b) ++ drop (suc i) a
-at_seat i [] b h k = absurd (omega arith)
-at_seat i (x ∷ a) [] h k = absurd (omega arith)
-at_seat zero (x ∷ a) (y ∷ b) h k = refl
-at_seat (suc i) (x ∷ a) (y ∷ b) h k = ap (λ (ns : List ℕ). max x y ∷ ns) (at_seat i a b (omega arith) (omega arith))
-
-pub maxima_more : (i : ℕ) (a b : List ℕ) → i < length a → i < length b → slice_set (maxima (take i a) (take i b) ++ drop i a) i (max (slice_index a i) (slice_index b i)) ≡ maxima (take (i + 1) a) (take (i + 1) b) ++ drop (i + 1) a
-maxima_more i a b h k = rw add-one (at_seat i a b h k)
-
--- the seats after eight turns
-pub maxima_all : (a b : List ℕ) → length a ≡ 8 → length b ≡ 8 → maxima (take 8 a) (take 8 b) ++ drop 8 a ≡ maxima a b
-maxima_all a b h k =
-    ap₂ (λ (xs ys : List ℕ). maxima xs ys ++ drop 8 a) (take_all 8 a (omega arith)) (take_all 8 b (omega arith))
-    ∙ ap (λ (xs : List ℕ). maxima a b ++ xs) (drop_all 8 a (omega arith))
-    ∙ append-nil (maxima a b)
-
 -- words of four bytes
-pub words_more : (xs : List ℕ) (i : ℕ) → i < length xs → words (take (i + 1) xs) ≡ words (take i xs) ++ be 4 (slice_index xs i)
-words_more xs i h = ap words (take_more xs i 0 h) ∙ sym (flat_map_more (be 4) [] (take i xs) (slice_index xs i))
-
-at_word : (i : ℕ) (bs : List ℕ) → words_in (suc i) bs ≡ words_in i bs ++ (number (take 4 (drop (4 * i) bs)) ∷ [])
-at_word zero bs = refl
-at_word (suc i) bs =
-    let e : 4 * suc i ≡ 4 + 4 * i = omega arith in
-    ap (λ (ns : List ℕ). number (take 4 bs) ∷ ns) (at_word i (drop 4 bs))
-    ∙ ap (λ (ds : List ℕ). number (take 4 bs) ∷ (words_in i (drop 4 bs) ++ (number (take 4 ds) ∷ []))) (drop-drop (4 * i) 4 bs ∙ ap (λ (n : ℕ). drop n bs) (sym e))
-
-pub words_in_more : (i : ℕ) (bs : List ℕ) → words_in (i + 1) bs ≡ words_in i bs ++ (number (take 4 (drop (4 * i) bs)) ∷ [])
-words_in_more i bs = rw add-one (at_word i bs)
-
 length_words : (n : ℕ) (xs : List ℕ) → seated n xs ≡ true → length (words xs) ≡ 4 * n
 length_words zero [] h = refl
 length_words zero (x ∷ xs) h = absurd (both_ways false refl h)

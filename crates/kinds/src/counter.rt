@@ -1,55 +1,34 @@
 // The counter of field samples: eight seats, one for each field party.
-ghost use Rattle.std.specs.Prelude.{◌≡◌, true, length};
-ghost use Rattle.kinds.specs.Counters.{counter, seated, maxima, words, words_in};
+ghost use Rattle.std.specs.Prelude.{◌≡◌};
+ghost use Rattle.std.specs.List.{flat_map};
+ghost use Rattle.kinds.specs.Counters.{counter, counter_of};
 ghost use Rattle.element.specs.Ruled.{ruled};
 ghost use Rattle.kinds.specs.CountersLemmas.{sound};
 ghost use Rattle.element.proofs.Rules;
 
-use crate::integers::u32_from;
 use element::{Element, place};
+use std::array;
 
-// The clauses `rule` below say that an array of eight u32, as the machine holds it, keeps the rule of a counter: it has
-// eight seats of 32 bits each. So every `Counter` stands for itself.
-#[derive(Clone, Copy)]
+#[derive(Clone, Copy, Default)]
 pub struct Counter {
     pub seats: [u32; 8],
 }
 
+// The next two take the arrays themselves, by reference: of those the check knows that there are eight seats of 32 bits.
+// That is the rule of a counter, so the counter of these seats stands for itself.
+
 // The greater in each seat.
 fn greater(a: &[u32; 8], b: &[u32; 8]) -> [u32; 8]
-    ensures value { result ≡ maxima a.now b.now }
-    ensures rule { (seated 8 a.now ≡ true) × (seated 8 b.now ≡ true) }
+    ensures { counter_of result ≡ (ruled counter).joined (counter_of a.now) (counter_of b.now) }
 {
-    let mut seats = *a;
-    for i in 0..8 {
-        seats[i] = a[i].max(b[i]);
-    }
-    seats
+    array::from_fn(|i| a[i].max(b[i]))
 }
 
 // The bytes of the seats, four for each.
-fn to_bytes(seats: &[u32; 8]) -> [u8; 32]
-    ensures value { result ≡ words seats.now }
-    ensures rule { seated 8 seats.now ≡ true }
+fn to_bytes(seats: &[u32; 8]) -> [[u8; 4]; 8]
+    ensures { flat_map (λ word. word) result ≡ (ruled counter).written (counter_of seats.now) }
 {
-    let mut bytes = [0; 32];
-    for i in 0..8 {
-        bytes[4 * i..4 * i + 4].copy_from_slice(&seats[i].to_be_bytes());
-    }
-    bytes
-}
-
-// The seats that 32 bytes spell.
-fn seats_in(bytes: &[u8]) -> [u32; 8]
-    requires { length bytes.now ≡ 32 }
-    ensures value { result ≡ words_in 8 bytes.now }
-    ensures rule { seated 8 result ≡ true }
-{
-    let mut seats = [0; 8];
-    for i in 0..8 {
-        seats[i] = u32_from(&bytes[4 * i..4 * i + 4]);
-    }
-    seats
+    seats.map(u32::to_be_bytes)
 }
 
 impl Element for Counter {
@@ -58,7 +37,7 @@ impl Element for Counter {
     ghost laws = { Rules.laws sound };
 
     fn bottom() -> Counter {
-        Counter { seats: [0; 8] }
+        Counter::default()
     }
 
     fn join(self, other: Counter) -> Counter {
@@ -72,15 +51,16 @@ impl Element for Counter {
     }
 
     fn write(&self, out: &mut [u8]) -> bool {
-        place(&to_bytes(&self.seats), out)
+        place(to_bytes(&self.seats).as_flattened(), out)
     }
 
     fn read(bytes: &[u8]) -> Option<Counter> {
-        if bytes.len() != 32 {
+        let (words, []) = bytes.as_chunks::<4>() else {
             return None;
-        }
+        };
+        let words: &[_; 8] = words.as_array()?;
         Some(Counter {
-            seats: seats_in(bytes),
+            seats: words.map(u32::from_be_bytes),
         })
     }
 }

@@ -3,7 +3,6 @@
 
 mod card;
 mod counter;
-mod integers;
 mod register;
 mod set;
 mod set_record;
@@ -12,4 +11,4 @@ pub use card::{Card, new_card};
 pub use counter::Counter;
 pub use register::Register;
 pub use set::Set;
-pub use set_record::SetRecord;
+pub use set_record::{NeverAdded, SetRecord};

@@ -7,7 +7,8 @@ ghost use Rattle.kinds.specs.RegistersLemmas.{sound};
 
 use element::{Element, place};
 
-#[derive(Clone, Copy)]
+// The fields stand in the order in which two registers are compared.
+#[derive(Clone, Copy, Default, PartialEq, Eq, PartialOrd, Ord)]
 pub struct Register {
     pub stamp: u64,
     // 0 marks a bulk import
@@ -21,23 +22,18 @@ impl Register {
     pub fn precedes(self, other: Register) -> bool
         ensures { result ≡ before self other }
     {
-        if self.stamp != other.stamp {
-            return self.stamp < other.stamp;
-        }
-        if self.office != other.office {
-            return self.office < other.office;
-        }
-        self.value < other.value
+        self < other
     }
 
     // The bytes of this register.
     fn to_bytes(self) -> [u8; 14]
         ensures { result ≡ register_bytes (meant register self) }
     {
-        let [s0, s1, s2, s3, s4, s5, s6, s7] = self.stamp.to_be_bytes();
-        let [o0, o1] = self.office.to_be_bytes();
-        let [v0, v1, v2, v3] = self.value.to_be_bytes();
-        [s0, s1, s2, s3, s4, s5, s6, s7, o0, o1, v0, v1, v2, v3]
+        let mut bytes = [0; 14];
+        bytes[..8].copy_from_slice(&self.stamp.to_be_bytes());
+        bytes[8..10].copy_from_slice(&self.office.to_be_bytes());
+        bytes[10..].copy_from_slice(&self.value.to_be_bytes());
+        bytes
     }
 }
 
@@ -47,15 +43,11 @@ impl Element for Register {
     ghost laws = { Rules.laws sound };
 
     fn bottom() -> Register {
-        Register {
-            stamp: 0,
-            office: 0,
-            value: 0,
-        }
+        Register::default()
     }
 
     fn join(self, other: Register) -> Register {
-        if self.precedes(other) { other } else { self }
+        self.max(other)
     }
 
     fn width() -> usize {
@@ -67,13 +59,12 @@ impl Element for Register {
     }
 
     fn read(bytes: &[u8]) -> Option<Register> {
-        let [s0, s1, s2, s3, s4, s5, s6, s7, o0, o1, v0, v1, v2, v3] = bytes else {
-            return None;
-        };
+        let (stamp, rest) = bytes.split_first_chunk()?;
+        let (office, rest) = rest.split_first_chunk()?;
         Some(Register {
-            stamp: u64::from_be_bytes([*s0, *s1, *s2, *s3, *s4, *s5, *s6, *s7]),
-            office: u16::from_be_bytes([*o0, *o1]),
-            value: u32::from_be_bytes([*v0, *v1, *v2, *v3]),
+            stamp: u64::from_be_bytes(*stamp),
+            office: u16::from_be_bytes(*office),
+            value: u32::from_be_bytes(*rest.as_array()?),
         })
     }
 }

@@ -24,16 +24,6 @@ impl Set {
         }
     }
 
-    // The set to which nothing was added.
-    pub fn empty() -> Set
-        ensures { (result.added ≡ 0) × (result.removed ≡ 0) }
-    {
-        Set {
-            added: 0,
-            removed: 0,
-        }
-    }
-
     // The union of each mask.
     pub fn join(self, other: Set) -> Set
         ensures { (result.added ≡ bit_or self.added other.added) × (result.removed ≡ bit_or self.removed other.removed) }
@@ -49,5 +39,17 @@ impl Set {
         ensures { result ≡ (self.added, self.removed) }
     {
         (self.added, self.removed)
+    }
+}
+
+// The set to which nothing was added. By hand: no default is derived where a field is ghost.
+impl Default for Set {
+    ghost is_default = { λ s. (s.added ≡ 0) × (s.removed ≡ 0) };
+
+    fn default() -> Set {
+        Set {
+            added: 0,
+            removed: 0,
+        }
     }
 }

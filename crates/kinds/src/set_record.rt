@@ -1,57 +1,73 @@
 // The plain record of a set of mast positions, as tables hold it.
-ghost use Rattle.std.specs.Prelude.{◌≡◌, true, false, MatchOption};
+ghost use Rattle.std.specs.Prelude.{◌≡◌, true, false, Some, MatchResult, codes};
 ghost use Rattle.element.specs.Ruled.{ruled, meant};
 ghost use Rattle.kinds.specs.Sets.{position_set, set_of, lawful_set, spelt_set};
 ghost use Rattle.element.proofs.Rules;
 ghost use Rattle.kinds.specs.SetsLemmas.{sound};
 
-use crate::integers::u64_from;
 use crate::set::Set;
 use element::{Element, place};
+use std::error::Error;
+use std::fmt;
 
 // Any two masks: whether they keep the rule of a set is asked where a set is made of them.
-#[derive(Clone, Copy)]
+#[derive(Clone, Copy, Default)]
 pub struct SetRecord {
     pub added: u64,
     pub removed: u64,
 }
 
-impl SetRecord {
-    // The record of `set`.
-    pub fn of(set: Set) -> SetRecord
-        ensures { result ≡ set_of set.added set.removed }
-    {
+impl From<Set> for SetRecord {
+    ghost from_gives = { λ s x. x ≡ set_of s.added s.removed };
+
+    fn from(set: Set) -> SetRecord {
         let (added, removed) = set.masks();
         SetRecord { added, removed }
     }
+}
 
-    // The set of this record, or none where it breaks the rule.
-    pub fn checked(self) -> Option<Set>
-        ensures { MatchOption result (lawful_set self ≡ false) (λ s. (set_of s.added s.removed ≡ self) × (lawful_set self ≡ true)) }
-    {
-        Set::new(self.added, self.removed)
+// Why no set is made of a record: a position is removed that was not added.
+#[derive(Clone, Copy, PartialEq, Eq, Debug)]
+pub struct NeverAdded;
+
+// By hand: what a derive of errors prints has no contract.
+impl fmt::Display for NeverAdded {
+    ghost output = { λ _. Some (codes "a position is removed that was not added") };
+
+    fn fmt<W: fmt::Write>(&self, f: &mut fmt::Formatter<W>) -> fmt::Result {
+        f.write_str("a position is removed that was not added")
     }
+}
 
+impl Error for NeverAdded {}
+
+impl TryFrom<SetRecord> for Set {
+    type Error = NeverAdded;
+
+    ghost try_from_gives = { λ x r. MatchResult r
+        (λ s. (set_of s.added s.removed ≡ x) × (lawful_set x ≡ true)) (λ _. lawful_set x ≡ false) };
+
+    fn try_from(record: SetRecord) -> Result<Set, NeverAdded> {
+        Set::new(record.added, record.removed).ok_or(NeverAdded)
+    }
+}
+
+impl SetRecord {
     // The set that this record stands for, the empty one where it breaks the rule.
     pub fn as_set(self) -> Set
         ensures { set_of result.added result.removed ≡ meant position_set self }
     {
-        match self.checked() {
-            Some(set) => set,
-            None => Set::empty(),
-        }
+        Set::try_from(self).unwrap_or_default()
     }
 
     // The record that 16 bytes spell, lawful or not, or none where there are not 16.
     fn spelt(bytes: &[u8]) -> Option<SetRecord>
         ensures { result ≡ spelt_set bytes.now }
     {
-        if bytes.len() != 16 {
-            return None;
-        }
+        let (added, rest) = bytes.split_first_chunk()?;
         Some(SetRecord {
-            added: u64_from(&bytes[0..8]),
-            removed: u64_from(&bytes[8..16]),
+            added: u64::from_be_bytes(*added),
+            removed: u64::from_be_bytes(*rest.as_array()?),
         })
     }
 
@@ -60,8 +76,8 @@ impl SetRecord {
         ensures { result ≡ position_set.bytes self }
     {
         let mut bytes = [0; 16];
-        bytes[0..8].copy_from_slice(&self.added.to_be_bytes());
-        bytes[8..16].copy_from_slice(&self.removed.to_be_bytes());
+        bytes[..8].copy_from_slice(&self.added.to_be_bytes());
+        bytes[8..].copy_from_slice(&self.removed.to_be_bytes());
         bytes
     }
 }
@@ -72,14 +88,11 @@ impl Element for SetRecord {
     ghost laws = { Rules.laws sound };
 
     fn bottom() -> SetRecord {
-        SetRecord {
-            added: 0,
-            removed: 0,
-        }
+        SetRecord::default()
     }
 
     fn join(self, other: SetRecord) -> SetRecord {
-        SetRecord::of(self.as_set().join(other.as_set()))
+        SetRecord::from(self.as_set().join(other.as_set()))
     }
 
     fn width() -> usize {
@@ -87,16 +100,12 @@ impl Element for SetRecord {
     }
 
     fn write(&self, out: &mut [u8]) -> bool {
-        place(&SetRecord::of(self.as_set()).to_bytes(), out)
+        place(&SetRecord::from(self.as_set()).to_bytes(), out)
     }
 
     fn read(bytes: &[u8]) -> Option<SetRecord> {
-        let Some(record) = SetRecord::spelt(bytes) else {
-            return None;
-        };
-        let Some(set) = record.checked() else {
-            return None;
-        };
-        Some(SetRecord::of(set))
+        let record = SetRecord::spelt(bytes)?;
+        let set = Set::try_from(record).ok()?;
+        Some(SetRecord::from(set))
     }
 }

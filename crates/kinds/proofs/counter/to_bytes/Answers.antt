@@ -1,34 +1,15 @@
-use Rattle.std.proofs.Common.{◌≡◌, ℕ, ◌+◌, ◌*◌, ◌≤◌, List, ◌++◌, length, get_or, sym, ap, ◌∙◌, ap₂, arith, rules}
-use borrow.Rule.Slice.PartMut.{put_mid}
-use Rattle.std.proofs.lemmas.List.{take_all, places}
-use Rattle.std.proofs.lemmas.Slice.{take-put_mid}
+use Rattle.std.proofs.Common.{ℕ, List, sym, ap, ◌∙◌, arith, rules}
+use Rattle.std.specs.List.{flat_map}
+use Rattle.std.proofs.lemmas.List.Folds.{flat_map-map}
 use Rattle.element.specs.Bytes.{be}
-use Rattle.kinds.specs.Counters.{words}
-use Rattle.kinds.specs.CountersLemmas.{seated_from, words_more}
-use Rattle.element.specs.Numbers.{four_of}
+use Rattle.element.proofs.Rules.{keeps_meant}
+use Rattle.kinds.specs.Counters.{counter, counter_of}
+use Rattle.kinds.specs.CountersLemmas.{sound, seated_from}
+use Rattle.kinds.proofs.Seats.{mapped}
 use Rattle.kinds.proofs.counter.to_bytes.Goals as goal
-
-length-put : (a k : ℕ) (xs ys : List ℕ) → a + k ≤ length xs → length ys ≡ k → length (put_mid a k xs ys) ≡ length xs
-length-put a k xs ys h l = search (rules, places)
-
-pub loop-i-preserved : goal.loop-i-preserved
-loop-i-preserved c =
-    let i = c.loop-i.i in
-    let xs = c.args.seats.now in
-    let w = c.copy_from_slice.new.self in
-    let n = get_or xs i 0 in
-    let e : w ≡ be 4 n = c.copy_from_slice.ensures.after ∙ c.to_be_bytes.ensures ∙ four_of n in (
-      length-put (4 * i) _ c.loop-i.bytes w (omega arith) (omega (arith, ap length e)) ∙ c.loop-i.invariant.0,
-      take-put_mid (4 * i) _ c.loop-i.bytes w (4 * (i + 1)) (omega arith) (omega arith)
-          ∙ ap₂ (λ (xs ys : List ℕ). xs ++ ys) c.loop-i.invariant.1 e
-          ∙ sym (words_more xs i (omega (arith, c.told-seats))),
-    )
 
 pub returns : goal.returns
 returns c =
     let xs = c.args.seats.now in
-    let e : c.loop-i.i ≡ 8 = omega arith in
-    record {
-      value = sym (take_all (4 * c.loop-i.i) c.loop-i.bytes (omega arith)) ∙ c.loop-i.invariant.1 ∙ ap words (take_all c.loop-i.i xs (omega (arith, c.told-seats)));
-      rule = seated_from 8 xs c.told-seats c.fits-seats;
-    }
+    let m = mapped (be 4) xs c.map.result (omega (arith, c.map.ensures.items.long)) (λ i d e h. let k = c.map.ensures.items.at i d e (omega arith) in search rules) in
+    ap (flat_map (λ (w : List ℕ). w)) m ∙ flat_map-map (λ (w : List ℕ). w) (be 4) xs ∙ ap counter.bytes (sym (keeps_meant sound (counter_of xs) (seated_from 8 xs c.told-seats c.fits-seats)))
