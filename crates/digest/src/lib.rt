@@ -4,7 +4,7 @@
 ghost use Rattle.std.specs.Prelude.{◌≡◌, ℕ, ◌*◌, ◌^◌, ◌<◌, List, bit_xor};
 ghost use Rattle.digest.specs.Folds.{fnv, sum, fnv_step, fnv_start};
 ghost use Rattle.std.proofs.Common.{mod-lt, arith};
-ghost use Rattle.digest.specs.Bounds.{folded_below};
+ghost use Rattle.std.proofs.lemmas.List.Folds.{fold_along};
 
 // A digest means one function from byte strings to 64-bit numbers. Asking it alters nothing.
 pub trait Digest {
@@ -28,7 +28,7 @@ pub struct Sum;
 impl Digest for Fnv {
     ghost function = { λ _. fnv };
 
-    ghost small = { λ d bs. folded_below fnv_step _ (λ h b. mod-lt (bit_xor h b * 0x100000001b3) (omega arith)) fnv_start (omega arith) bs };
+    ghost small = { λ d bs. fold_along fnv_step fnv_step (λ h _. h < 2 ^ 64) (λ h _ b _. mod-lt (bit_xor h b * 0x100000001b3) (omega arith)) fnv_start fnv_start bs (omega arith) };
 
     fn digest(&self, bytes: &[u8]) -> u64 {
         let mut hash: u64 = 0xcbf29ce484222325;

@@ -31,8 +31,9 @@ module _ (h : List ℕ → ℕ) where
       climb_on (suc f) n ds p ∙ climb_enough f (n / 2) (set ds n (node_in h ds n)) (omega (arith, twice f)) ∙ sym (climb_on f n ds p))
       (cases_eq n 0)
 
-  pub climb_step : (n : ℕ) (ds : List ℕ) → 1 ≤ n → n < 4096 → climbed h 12 (n / 2) (set ds n (node_in h ds n)) ≡ climbed h 12 n ds
-  climb_step n ds low high = climb_enough 11 (n / 2) (set ds n (node_in h ds n)) (omega arith) ∙ sym (climb_on 11 n ds low)
+  pub climb_step : (n v : ℕ) (ds : List ℕ) → v ≡ node_in h ds n → 1 ≤ n → n < 4096 → climbed h 12 (n / 2) (set ds n v) ≡ climbed h 12 n ds
+  climb_step n v ds e low high =
+      ap (λ (x : ℕ). climbed h 12 (n / 2) (set ds n x)) e ∙ climb_enough 11 (n / 2) (set ds n (node_in h ds n)) (omega arith) ∙ sym (climb_on 11 n ds low)
 
   climb_none : (n : ℕ) (ds : List ℕ) → climbed h 0 n ds ≡ ds
   unfolding climbed

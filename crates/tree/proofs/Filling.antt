@@ -5,14 +5,6 @@ use Rattle.std.proofs.lemmas.Bool.{cases_eq}
 use Rattle.tree.specs.Renewal.{node_in}
 use Rattle.tree.specs.Tree.{node_bytes}
 
--- one more of the places from n on
-pub leaves_more : (f : ℕ → ℕ) (n k v : ℕ) (ds : List ℕ) → n + k < length ds → v ≡ f k → ((j : ℕ) → j < k → get_or ds (n + j) 0 ≡ f j) → (j : ℕ) → j < k + 1 → get_or (set ds (n + k) v) (n + j) 0 ≡ f j
-leaves_more f n k v ds l e old j h =
-    ⊎_elim
-    (λ (a : j ≡ k). ap (λ (i : ℕ). get_or (set ds (n + k) v) (n + i) 0) a ∙ get_or-set_same ds (n + k) v 0 l ∙ e ∙ ap f (sym a))
-    (λ (a : j ≡ k → ⊥). get_or-set_other ds (n + k) (n + j) v 0 (λ (q : n + j ≡ n + k). a (omega arith)) ∙ old j (omega arith))
-    (cases_eq j k)
-
 -- one more of the ranges with halves, downward
 pub nodes_more : (h : List ℕ → ℕ) (size k v : ℕ) (ds : List ℕ) → 1 < k → k ≤ size → length ds ≡ 2 * size → v ≡ node_in h ds (k - 1)
     → ((j : ℕ) → k ≤ j → 1 ≤ j → j < size → get_or ds j 0 ≡ node_in h ds j)

@@ -1,11 +1,11 @@
 pub mod Powers
 pub mod Covering
+pub mod Upward
 pub mod Levels
 pub mod Following
 pub mod Places
 pub mod Forward
 pub mod Sizing
-pub mod Buffers
 pub mod Filling
 pub mod Merkles
 pub mod Telling

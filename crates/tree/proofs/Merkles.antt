@@ -1,12 +1,15 @@
 -- The digest of a range is Merkle's, and a table with Merkle's digests at all places is the tree.
-use Rattle.std.proofs.Common.{◌≡◌, ℕ, zero, suc, ◌+◌, ◌-◌, ◌*◌, ◌^◌, ◌<◌, ◌≤◌, List, length, get_or, set, sym, refl, ap, ◌∙◌, ap₂, ⊎_elim, mul-le-mul_right, mul-one, arith, length-set}
+use Rattle.std.proofs.Common.{◌≡◌, ℕ, zero, suc, ◌+◌, ◌-◌, ◌*◌, ◌^◌, ◌<◌, ◌≤◌, true, List, length, get_or, set, sym, refl, ap, ◌∙◌, ap₂, ⊎_elim, mul-le-mul_right, mul-one, arith, length-set}
 use Rattle.std.proofs.lemmas.List.{get_or-set_same, get_or-set_other}
 use Rattle.std.proofs.lemmas.List.FromFn.{fill_by_all, length-map-range_with_len, get_or-map-range_with_len}
 use Rattle.std.proofs.lemmas.Bool.{cond-true, cond-false, cases_lt, cases_eq, le-leb, lt-leb, ne_eqb}
 use Rattle.element.specs.Model.{Model}
 use Rattle.tree.specs.Renewal.{node_in}
-use Rattle.tree.specs.Tree.{leaf_bytes, node_bytes, digested_by, digested, digest_of, place_of, tree, Merkle}
+use Rattle.tree.specs.Sizes.{fit}
+use Rattle.tree.specs.Tree.{leaf_bytes, node_bytes, digested_by, digested, digest_of, place_of, tree, build_after, Merkle, Built}
 use Rattle.tree.proofs.Powers.{begin_half}
+use Rattle.tree.proofs.Sizing.{sized_high, fitting}
+use Rattle.tree.proofs.Upward.{upward}
 
 module _ {R : Type 0} (m : Model R) (h : List ℕ → ℕ) (es : List R) where
   leaf_at : (f n : ℕ) → length es ≤ n → digested_by m h es f n ≡ leaf_bytes m (get_or es (n - length es) m.bottom)
@@ -81,38 +84,41 @@ module _ {R : Type 0} (m : Model R) (h : List ℕ → ℕ) (es : List R) where
   module _ (small : length es ≤ 4096) (ds : List ℕ)
       (leaves : (k : ℕ) → k < length es → get_or ds (length es + k) 0 ≡ h (leaf_bytes m (get_or es k m.bottom)))
       (nodes : (n : ℕ) → 1 ≤ n → n < length es → get_or ds n 0 ≡ node_in h ds n) where
-    upward : (f n : ℕ) → 2 * length es ≤ n + f → 1 ≤ n → n < 2 * length es → get_or ds n 0 ≡ digest_of m h es n
-    upward zero n e low high = absurd (omega arith)
-    upward (suc f) n e low high =
-        ⊎_elim
-        (λ (b : n < length es).
-        nodes n low b
-        ∙ ap₂ (λ (x y : ℕ). h (node_bytes x y)) (upward f (2 * n) (omega arith) (omega arith) (omega arith)) (upward f (2 * n + 1) (omega arith) (omega arith) (omega arith))
-        ∙ ap h (sym (digested_node small n low b))
-        ∙ sym (digest_is n))
-        (λ (b : length es ≤ n).
+    -- place n holds the tree's digest
+    abbrev Holds : ℕ → Type 0
+    Holds n = get_or ds n 0 ≡ digest_of m h es n
+
+    at_key : (n : ℕ) → 1 ≤ n → length es ≤ n → n < 2 * length es → Holds n
+    at_key n low b high =
         let i : length es + (n - length es) ≡ n = omega arith in
-        ap (λ (j : ℕ). get_or ds j 0) (sym i)
-        ∙ leaves (n - length es) (omega arith)
-        ∙ ap h (sym (digested_leaf n b))
-        ∙ sym (digest_is n))
-        (cases_lt n (length es))
+        ap (λ (j : ℕ). get_or ds j 0) (sym i) ∙ leaves (n - length es) (omega arith) ∙ ap h (sym (digested_leaf n b)) ∙ sym (digest_is n)
 
-    pub built : length ds ≡ 2 * length es → get_or ds 0 0 ≡ 0 → ds ≡ tree m h es
-    built l z = tree_from ds l z (λ n low high. upward (2 * length es) n (omega arith) low high)
+    at_halves : (n : ℕ) → 1 ≤ n → n < length es → Holds (2 * n) → Holds (2 * n + 1) → Holds n
+    at_halves n low b x y = nodes n low b ∙ ap₂ (λ (x y : ℕ). h (node_bytes x y)) x y ∙ ap h (sym (digested_node small n low b)) ∙ sym (digest_is n)
 
-  -- the digests of the single keys, then of the others, then place 0
-  pub assembled : (one two : List ℕ) → 1 ≤ length es → length es ≤ 4096 → length two ≡ 2 * length es
+    built : length ds ≡ 2 * length es → get_or ds 0 0 ≡ 0 → ds ≡ tree m h es
+    built l z = tree_from ds l z (upward Holds (length es) at_key at_halves)
+
+  -- the digests of the single keys, then of the others, then place 0: what a build leaves
+  pub assembled : (ds one two : List ℕ) → fit (length es) (length ds) ≡ true → length two ≡ length ds
       → ((k : ℕ) → k < length es → get_or one (length es + k) 0 ≡ h (leaf_bytes m (get_or es k m.bottom)))
       → ((k : ℕ) → 1 ≤ k → k < length es → get_or two k 0 ≡ node_in h two k)
       → ((k : ℕ) → length es ≤ k → get_or two k 0 ≡ get_or one k 0)
-      → set two 0 0 ≡ tree m h es
-  assembled one two some small long leaves nodes kept =
-      built small (set two 0 0)
+      → set two 0 0 ≡ build_after m h es ds
+  assembled ds one two fits long leaves nodes kept =
+      built size.1 (set two 0 0)
       (λ k b. other (length es + k) (omega arith) ∙ kept (length es + k) (omega arith) ∙ leaves k b)
       (λ k low b. other k low ∙ nodes k low b ∙ ap₂ (λ (x y : ℕ). h (node_bytes x y)) (sym (other (2 * k) (omega arith))) (sym (other (2 * k + 1) (omega arith))))
-      (length-set two 0 0 ∙ long)
-      (get_or-set_same two 0 0 0 (omega arith))
+      (length-set two 0 0 ∙ long ∙ size.2)
+      (get_or-set_same two 0 0 0 (omega (arith, size)))
+      ∙ sym (cond-true _ (tree m h es) ds fits)
     where
+      size : (1 ≤ length es) × (length es ≤ 4096) × (length ds ≡ 2 * length es)
+      size = fitting (length es) (length ds) fits
+
       other : (k : ℕ) → 1 ≤ k → get_or (set two 0 0) k 0 ≡ get_or two k 0
       other k l = get_or-set_other two 0 k 0 0 (λ (e : k ≡ 0). omega arith)
+
+-- so it is of every table that is used
+pub trees : {R : Type 0} (m : Model R) (h : List ℕ → ℕ) → Built m h
+trees m h es s = merkle m h es (sized_high (length es) s)

@@ -1,42 +1,54 @@
 -- Sizes: a power of two below a bound, and what the test of one tells.
-use Rattle.std.proofs.Common.{◌≡◌, ℕ, zero, suc, ◌+◌, ◌*◌, ◌^◌, ◌<◌, ◌≤◌, true, false, eqb, Decides, refl, ap, ◌∙◌, ⊎_elim, add-one, arith, pow_pos, pow_mono}
-use borrow.Author.Tests.{both_ways}
-use Rattle.std.proofs.lemmas.Bool.{cases_eq, and_parts, eqb-true, eq-eqb, ne_eqb, or_cases, or_from, or_left, or_right}
+use Rattle.std.proofs.Common.{◌≡◌, ℕ, zero, suc, ◌*◌, ◌/◌, ◌%◌, ◌^◌, ◌<◌, ◌≤◌, ◌&&◌, true, eqb, leb, Decides, refl, ap, ◌∙◌, ⊎_elim, arith, pow_pos, pow_mono}
+use lib.Count.{ones, ones_step, ones_cat}
+use Rattle.std.specs.Int.{is_power_of_two}
+use Rattle.std.specs.Int.RustNames.{count_ones}
+use Rattle.std.proofs.lemmas.Nat.{ones_le_self, zero_from_ones}
+use Rattle.std.proofs.lemmas.Bool.{cases_eq, cases_lt, and_parts, and_from, eqb-true, leb-true, eq-eqb, le-leb}
+use Rattle.std.proofs.lemmas.Bool.Decides.{same_from_decides, Decides-eqb, Decides-below_or}
+use Rattle.tree.proofs.Powers.{twice}
 use Rattle.tree.specs.Sizes.{power_below, sized, fit, Size}
 
-power_found : (d n : ℕ) → power_below d n ≡ true → (e : ℕ) × (e < d) × (n ≡ 2 ^ e)
-power_found zero n h = absurd (both_ways false refl h)
-power_found (suc d) n h =
-    ⊎_elim
-    (λ (a : eqb n (2 ^ d) ≡ true). (d, omega arith, eqb-true n (2 ^ d) a))
-    (λ (b : power_below d n ≡ true). let r = power_found d n b in (r.0, omega (arith, r.1), r.2))
-    (or_cases (eqb n (2 ^ d)) (power_below d n) h)
-
-power_is : (d n e : ℕ) → e < d → n ≡ 2 ^ e → power_below d n ≡ true
-power_is zero n e l h = absurd (omega arith)
-power_is (suc d) n e l h =
-    ⊎_elim
-    (λ (a : e ≡ d). or_left _ _ (eq-eqb n (2 ^ d) (h ∙ ap (λ (k : ℕ). 2 ^ k) a)))
-    (λ (a : e ≡ d → ⊥). or_right (eqb n (2 ^ d)) _ (power_is d n e (omega arith) h))
-    (cases_eq e d)
-
-pub power_more : (d n : ℕ) → (n ≡ 2 ^ d → ⊥) → power_below d n ≡ false → power_below (d + 1) n ≡ false
-power_more d n ne h = rw add-one (or_from _ _ (ne_eqb n (2 ^ d) ne) h)
-
-pub sized_is : (n e : ℕ) → e < 13 → n ≡ 2 ^ e → sized n ≡ true
-unfolding sized
-sized_is n e l h = power_is 13 n e l h
+power_decides : (n d : ℕ) → Decides (power_below d n) ((e : ℕ) × (e < d) × (n ≡ 2 ^ e))
+power_decides n d = Decides-below_or (λ e. eqb n (2 ^ e)) (λ e. n ≡ 2 ^ e) (λ e. power_below e n) (λ e. Decides-eqb n (2 ^ e)) refl (λ _. refl) d
 
 pub size_of : (n : ℕ) → sized n ≡ true → Size n
 unfolding sized
-size_of n h = let r = power_found 13 n h in record { depth = r.0; shallow = omega (arith, r.1); power = r.2 }
-
-pub not_sized : (n : ℕ) → power_below 13 n ≡ false → sized n ≡ false
-unfolding sized
-not_sized n h = h
+size_of n h = let r = (power_decides n 13).0 h in record { depth = r.0; shallow = omega (arith, r.1); power = r.2 }
 
 pub sized_decides : (n : ℕ) → Decides (sized n) (Size n)
-sized_decides n = (size_of n, λ s. let l = s.shallow in sized_is n s.depth (omega arith) s.power)
+unfolding sized
+sized_decides n = (size_of n, λ s. let l = s.shallow in (power_decides n 13).1 (s.depth, omega arith, s.power))
+
+-- a number is a power of two just if one of its binary digits is set
+one_digit : (k : ℕ) → count_ones (2 ^ k) ≡ 1
+unfolding ones
+one_digit k = ap ones (omega arith) ∙ ones_cat k 1 0 (pow_pos k)
+
+power_from_digit : (f n : ℕ) → n ≤ f → count_ones n ≡ 1 → (k : ℕ) × (n ≡ 2 ^ k)
+power_from_digit zero n l h = absurd (omega (arith, ones_le_self n))
+power_from_digit (suc f) n l h =
+    ⊎_elim
+    (λ (e : n % 2 ≡ 0). let r = power_from_digit f (n / 2) (omega arith) (omega (arith, ones_step n)) in (suc r.0, omega (arith, r.1, twice r.0)))
+    (λ (e : n % 2 ≡ 0 → ⊥). let z : n / 2 ≡ 0 = zero_from_ones (n / 2) (omega (arith, ones_step n)) in (0, omega arith))
+    (cases_eq (n % 2) 0)
+
+-- so the test of the code tells the sizes
+test_decides : (n : ℕ) → Decides (is_power_of_two n && leb n 4096) (Size n)
+test_decides n = (found, is)
+  where
+    found : (is_power_of_two n && leb n 4096) ≡ true → Size n
+    found h =
+        let p = and_parts (is_power_of_two n) (leb n 4096) h in
+        let r = power_from_digit n n (omega arith) (eqb-true (count_ones n) 1 p.0) in
+        let small : n ≤ 4096 = leb-true n 4096 p.1 in
+        record { depth = r.0; shallow = ⊎_elim (λ (a : 12 < r.0). absurd (omega (arith, r.1, pow_mono {i = 13} {j = r.0} a))) (λ (a : r.0 ≤ 12). a) (cases_lt 12 r.0); power = r.1 }
+
+    is : Size n → (is_power_of_two n && leb n 4096) ≡ true
+    is s = and_from _ _ (eq-eqb (count_ones n) 1 (ap count_ones s.power ∙ one_digit s.depth)) (le-leb n 4096 (omega (arith, s.power, pow_mono {i = s.depth} {j = 12} s.shallow)))
+
+pub test_sized : (n : ℕ) → (is_power_of_two n && leb n 4096) ≡ sized n
+test_sized n = same_from_decides _ _ (test_decides n) (sized_decides n)
 
 pub sized_low : (n : ℕ) → sized n ≡ true → 1 ≤ n
 sized_low n h = let s = size_of n h in omega (arith, s.power, pow_pos s.depth)
@@ -46,3 +58,7 @@ sized_high n h = let s = size_of n h in omega (arith, s.power, pow_mono {i = s.d
 
 pub fit_parts : (n d : ℕ) → fit n d ≡ true → (sized n ≡ true) × (d ≡ 2 * n)
 fit_parts n d h = let p = and_parts (sized n) (eqb d (2 * n)) h in (p.0, eqb-true d (2 * n) p.1)
+
+-- tables that fit, in numbers
+pub fitting : (n d : ℕ) → fit n d ≡ true → (1 ≤ n) × (n ≤ 4096) × (d ≡ 2 * n)
+fitting n d h = let p = fit_parts n d h in (sized_low n p.0, sized_high n p.0, p.1)

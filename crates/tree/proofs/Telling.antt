@@ -1,28 +1,23 @@
 -- What equal digests tell: equal elements, or two byte strings with one digest.
-use Rattle.std.proofs.Common.{◌≡◌, ℕ, zero, suc, ◌+◌, ◌-◌, ◌*◌, ◌/◌, ◌^◌, ◌<◌, ◌≤◌, ◌⊎◌, List, [], ◌∷◌, ◌++◌, length, get_or, sym, refl, ap, ◌∙◌, subst, ap₂, inl, inr, ⊎_elim, arith}
+use Rattle.std.proofs.Common.{◌≡◌, ℕ, ◌+◌, ◌-◌, ◌*◌, ◌/◌, ◌^◌, ◌<◌, ◌≤◌, ◌⊎◌, List, ◌∷◌, ◌++◌, length, get_or, take, drop, sym, refl, ap, ◌∙◌, subst, ap₂, inl, inr, ⊎_elim, arith}
 use mathlib.Core.List.{List-discrete}
 use native.Mathlib.Decide.{ℕ_discrete}
-use Rattle.std.proofs.lemmas.Bool.{cases_lt}
+use Rattle.std.proofs.lemmas.List.{take_at, drop_at}
 use Rattle.element.specs.Bytes.{be, number}
 use Rattle.element.specs.Model.{Model, Laws}
 use Rattle.element.specs.Order.{Same}
 use Rattle.element.specs.Numbers.{length_be, number_be}
 use Rattle.element.proofs.Orders.{same_written, written_same}
-use Rattle.tree.specs.Tree.{leaf_bytes, node_bytes, digested, digest_of, Agree, Clash, Telling}
+use Rattle.tree.specs.Tree.{leaf_bytes, node_bytes, digested, digest_of, Agree, Clash, Tells, Telling}
 use Rattle.tree.proofs.Covering.{inside_self, inside_half, covers_half, covers_leaf, covers_halves, leaf_covers}
 use Rattle.tree.proofs.Merkles.{digested_leaf, digested_node, digest_is}
 use Rattle.tree.proofs.Sizing.{sized_high}
+use Rattle.tree.proofs.Upward.{upward}
 
 -- two strings of parts of one length
 append_same : (s t u v : List ℕ) → length s ≡ length t → s ++ u ≡ t ++ v → (s ≡ t) × (u ≡ v)
-append_same [] [] u v l e = (refl, e)
-append_same [] (y ∷ t) u v l e = absurd (omega arith)
-append_same (x ∷ s) [] u v l e = absurd (omega arith)
-append_same (x ∷ s) (y ∷ t) u v l e =
-    let a : x ≡ y = cc in
-    let b : s ++ u ≡ t ++ v = cc in
-    let r = append_same s t u v (omega arith) b in
-    (ap₂ (λ (z : ℕ) (zs : List ℕ). z ∷ zs) a r.0, r.1)
+append_same s t u v l e =
+    (sym (take_at s u (length t) l) ∙ ap (take (length t)) e ∙ take_at t v (length t) refl, sym (drop_at s u (length t) l) ∙ ap (drop (length t)) e ∙ drop_at t v (length t) refl)
 
 be_same : (n x y : ℕ) → x < 256 ^ n → y < 256 ^ n → be n x ≡ be n y → x ≡ y
 be_same n x y a b e = sym (number_be n x a) ∙ ap number e ∙ number_be n y b
@@ -46,34 +41,43 @@ module _ {R : Type 0} (m : Model R) (l : Laws m) (h : List ℕ → ℕ) (small :
   leaf_in : (xs : List R) → length xs ≡ length es → (n : ℕ) → length es ≤ n → digested m h xs n ≡ leaf_bytes m (get_or xs (n - length es) m.bottom)
   leaf_in xs e n b = digested_leaf m h xs n (omega arith) ∙ ap (λ (i : ℕ). leaf_bytes m (get_or xs (n - i) m.bottom)) e
 
-  same_at : (f n : ℕ) → 2 * length es ≤ n + f → 1 ≤ n → n < 2 * length es → Agree m h es fs n → digested m h es n ≡ digested m h fs n
-  same_at zero n e low high a = absurd (omega arith)
-  same_at (suc f) n e low high a =
-      ⊎_elim
-      (λ (b : n < length es).
-      digested_node m h es few n low b
-      ∙ ap₂ (λ (x y : ℕ). node_bytes x y)
-      (digest_is m h es (2 * n) ∙ ap h (same_at f (2 * n) (omega arith) (omega arith) (omega arith) (agree_half n (2 * n) low (omega arith) a)) ∙ sym (digest_is m h fs (2 * n)))
-      (digest_is m h es (2 * n + 1) ∙ ap h (same_at f (2 * n + 1) (omega arith) (omega arith) (omega arith) (agree_half n (2 * n + 1) low (omega arith) a)) ∙ sym (digest_is m h fs (2 * n + 1)))
-      ∙ sym (digested_node m h fs (omega arith) n low (omega arith)))
-      (λ (b : length es ≤ n).
+  -- tables that agree at a range have the same digested of it
+  abbrev AgreeTells : ℕ → Type 0
+  AgreeTells n = Agree m h es fs n → digested m h es n ≡ digested m h fs n
+
+  same_key : (n : ℕ) → 1 ≤ n → length es ≤ n → n < 2 * length es → AgreeTells n
+  same_key n low b high a =
       let k : ℕ = n - length es in
       leaf_in es refl n b
       ∙ ap (λ (bs : List ℕ). 0 ∷ bs) (same_written l (get_or es k m.bottom) (get_or fs k m.bottom) (a k (omega arith) (covers_leaf (length es) n k low (omega arith))))
-      ∙ sym (leaf_in fs long n b))
-      (cases_lt n (length es))
+      ∙ sym (leaf_in fs long n b)
 
-  -- at a single key: the same bytes, or a clash
-  leaf_tells : (n : ℕ) → 1 ≤ n → n < 2 * length es → length es ≤ n → digest_of m h es n ≡ digest_of m h fs n → Agree m h es fs n ⊎ Clash m h es fs n
-  leaf_tells n low high b d = go (List-discrete ℕ_discrete (digested m h es n) (digested m h fs n))
+  same_halves : (n : ℕ) → 1 ≤ n → n < length es → AgreeTells (2 * n) → AgreeTells (2 * n + 1) → AgreeTells n
+  same_halves n low b x y a =
+      digested_node m h es few n low b
+      ∙ ap₂ (λ (x y : ℕ). node_bytes x y) (half (2 * n) (omega arith) x) (half (2 * n + 1) (omega arith) y)
+      ∙ sym (digested_node m h fs (omega arith) n low (omega arith))
+    where
+      half : (p : ℕ) → p / 2 ≡ n → AgreeTells p → digest_of m h es p ≡ digest_of m h fs p
+      half p e same = digest_is m h es p ∙ ap h (same (agree_half n p low e a)) ∙ sym (digest_is m h fs p)
+
+  -- equal digests at a range tell of agreement, or of a clash
+  abbrev DigestTells : ℕ → Type 0
+  DigestTells n = digest_of m h es n ≡ digest_of m h fs n → Agree m h es fs n ⊎ Clash m h es fs n
+
+  here : (n : ℕ) → 1 ≤ n → n < 2 * length es → (digested m h es n ≡ digested m h fs n → Agree m h es fs n ⊎ Clash m h es fs n) → DigestTells n
+  here n low high same d = go (List-discrete ℕ_discrete (digested m h es n) (digested m h fs n))
     where
       go : Dec (digested m h es n ≡ digested m h fs n) → Agree m h es fs n ⊎ Clash m h es fs n
-      go (yes y) = inl (λ k s c.
-          let i : n - length es ≡ k = omega (arith, leaf_covers (length es) n k s b c) in
-          let t : leaf_bytes m (get_or es (n - length es) m.bottom) ≡ leaf_bytes m (get_or fs (n - length es) m.bottom) = sym (leaf_in es refl n b) ∙ y ∙ leaf_in fs long n b in
-          let w : m.written (get_or es (n - length es) m.bottom) ≡ m.written (get_or fs (n - length es) m.bottom) = cc in
-          subst (λ (j : ℕ). Same m (get_or es j m.bottom) (get_or fs j m.bottom)) i (written_same l _ _ w))
+      go (yes y) = same y
       go (no y) = inr (record { range = n; inside = inside_self n; low = low; high = high; differ = y; collide = d })
+
+  tells_key : (n : ℕ) → 1 ≤ n → length es ≤ n → n < 2 * length es → DigestTells n
+  tells_key n low b high = here n low high (λ y. inl (λ k s c.
+      let i : n - length es ≡ k = omega (arith, leaf_covers (length es) n k s b c) in
+      let t : leaf_bytes m (get_or es (n - length es) m.bottom) ≡ leaf_bytes m (get_or fs (n - length es) m.bottom) = sym (leaf_in es refl n b) ∙ y ∙ leaf_in fs long n b in
+      let w : m.written (get_or es (n - length es) m.bottom) ≡ m.written (get_or fs (n - length es) m.bottom) = cc in
+      subst (λ (j : ℕ). Same m (get_or es j m.bottom) (get_or fs j m.bottom)) i (written_same l _ _ w)))
 
   widen : (n p : ℕ) → p / 2 ≡ n → Clash m h es fs p → Clash m h es fs n
   widen n p e c = record { range = c.range; inside = inside_half c.range n p e c.inside; low = c.low; high = c.high; differ = c.differ; collide = c.collide }
@@ -83,28 +87,17 @@ module _ {R : Type 0} (m : Model R) (l : Laws m) (h : List ℕ → ℕ) (small :
   both_tell n b (inl x) (inr y) = inr (widen n (2 * n + 1) (omega arith) y)
   both_tell n b (inr x) y = inr (widen n (2 * n) (omega arith) x)
 
-  tells_at : (f n : ℕ) → 2 * length es ≤ n + f → 1 ≤ n → n < 2 * length es → digest_of m h es n ≡ digest_of m h fs n → Agree m h es fs n ⊎ Clash m h es fs n
-  tells_at zero n e low high d = absurd (omega arith)
-  tells_at (suc f) n e low high d =
-      ⊎_elim
-      (λ (b : n < length es). node b (List-discrete ℕ_discrete (digested m h es n) (digested m h fs n)) (tells_at f (2 * n) (omega arith) (omega arith) (omega arith)) (tells_at f (2 * n + 1) (omega arith) (omega arith) (omega arith)))
-      (λ (b : length es ≤ n). leaf_tells n low high b d)
-      (cases_lt n (length es))
-    where
-      node : n < length es → Dec (digested m h es n ≡ digested m h fs n)
-          → (digest_of m h es (2 * n) ≡ digest_of m h fs (2 * n) → Agree m h es fs (2 * n) ⊎ Clash m h es fs (2 * n))
-          → (digest_of m h es (2 * n + 1) ≡ digest_of m h fs (2 * n + 1) → Agree m h es fs (2 * n + 1) ⊎ Clash m h es fs (2 * n + 1))
-          → Agree m h es fs n ⊎ Clash m h es fs n
-      node b (yes y) p q =
-          let t = sym (digested_node m h es few n low b) ∙ y ∙ digested_node m h fs (omega arith) n low (omega arith) in
-          let u = node_same _ _ _ _ (below es (2 * n)) (below es (2 * n + 1)) (below fs (2 * n)) (below fs (2 * n + 1)) t in
-          both_tell n b (p u.0) (q u.1)
-      node b (no y) p q = inr (record { range = n; inside = inside_self n; low = low; high = high; differ = y; collide = d })
+  tells_halves : (n : ℕ) → 1 ≤ n → n < length es → DigestTells (2 * n) → DigestTells (2 * n + 1) → DigestTells n
+  tells_halves n low b p q = here n low (omega arith) (λ y.
+      let t = sym (digested_node m h es few n low b) ∙ y ∙ digested_node m h fs (omega arith) n low (omega arith) in
+      let u = node_same _ _ _ _ (below es (2 * n)) (below es (2 * n + 1)) (below fs (2 * n)) (below fs (2 * n + 1)) t in
+      both_tell n b (p u.0) (q u.1))
+
+  tells : (n : ℕ) → 1 ≤ n → n < 2 * length es → Tells m h es fs n
+  tells n low high = record {
+    agree_same = λ a. digest_is m h es n ∙ ap h (upward AgreeTells (length es) same_key same_halves n low high a) ∙ sym (digest_is m h fs n);
+    same_agree = upward DigestTells (length es) tells_key tells_halves n low high;
+  }
 
 pub telling : {R : Type 0} (m : Model R) → Laws m → (h : List ℕ → ℕ) → ((bs : List ℕ) → h bs < 2 ^ 64) → Telling m h
-telling m l h small es fs n s long low high =
-    let few = sized_high (length es) s in
-    record {
-      agree_same = λ a. digest_is m h es n ∙ ap h (same_at m l h small es fs few long (2 * length es) n (omega arith) low high a) ∙ sym (digest_is m h fs n);
-      same_agree = tells_at m l h small es fs few long (2 * length es) n (omega arith) low high;
-    }
+telling m l h small es fs n s long low high = tells m l h small es fs (sized_high (length es) s) long n low high

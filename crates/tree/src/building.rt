@@ -14,8 +14,8 @@ fn fill_leaves<E: Element, D: Digest>(digest: &D, elements: &[E], digests: &mut 
     ensures { (k : ℕ) → k < length elements.now → slice_index digests.new (length elements.now + k) ≡ D.Digest.function digest.now (leaf_bytes E.Element.model (slice_index_or elements.now k E.Element.model.bottom)) }
 {
     let n = elements.len();
-    for k in 0..n {
-        digests[n + k] = leaf(digest, &elements[k]);
+    for (key, element) in elements.iter().enumerate() {
+        digests[n + key] = leaf(digest, element);
     }
 }
 
@@ -25,6 +25,7 @@ fn fill_nodes<D: Digest>(digest: &D, size: usize, digests: &mut [u64])
     ensures nodes { (k : ℕ) → 1 ≤ k → k < size → slice_index digests.new k ≡ node_in (D.Digest.function digest.now) digests.new k }
     ensures kept { (k : ℕ) → size ≤ k → slice_index digests.new k ≡ slice_index digests.old k }
 {
+    // by numbers, since a place is tied to those of its halves by its number alone: k to 2k and 2k + 1
     for k in (1..size).rev() {
         digests[k] = node(digest, digests[2 * k], digests[2 * k + 1]);
     }

@@ -11,7 +11,7 @@ fn node_of(lower: u64, upper: u64) -> [u8; 17]
 {
     let mut bytes = [1; 17];
     bytes[1..9].copy_from_slice(&lower.to_be_bytes());
-    bytes[9..17].copy_from_slice(&upper.to_be_bytes());
+    bytes[9..].copy_from_slice(&upper.to_be_bytes());
     bytes
 }
 
@@ -26,7 +26,8 @@ pub(crate) fn node<D: Digest>(digest: &D, lower: u64, upper: u64) -> u64
 pub(crate) fn leaf<E: Element, D: Digest>(digest: &D, x: &E) -> u64
     ensures { result ≡ D.Digest.function digest.now (leaf_bytes E.Element.model x.now) }
 {
+    // room for the widest element: without a heap there is no buffer of just this type's width
     let mut bytes = [0; 65];
     x.write(&mut bytes[1..]);
-    digest.digest(&bytes[0..1 + E::width()])
+    digest.digest(&bytes[..1 + E::width()])
 }

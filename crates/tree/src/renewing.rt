@@ -13,6 +13,7 @@ fn climb<D: Digest>(digest: &D, from: usize, digests: &mut [u64])
     ensures { digests.new ≡ climbed (D.Digest.function digest.now) 12 from digests.old }
 {
     let mut n = from;
+    // a `while`: an iterator over the halves would have to name the end twice (`successors`) or the levels (`take_while`)
     while n > 0 {
         digests[n] = node(digest, digests[2 * n], digests[2 * n + 1]);
         n /= 2;

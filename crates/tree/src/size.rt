@@ -7,12 +7,7 @@ pub fn is_size(n: usize) -> bool
     ensures value { result ≡ sized n }
     ensures power { Decides result (Size n) }
 {
-    for depth in 0..13u32 {
-        if n == 1 << depth {
-            return true;
-        }
-    }
-    false
+    n.is_power_of_two() && n <= 4096
 }
 
 // Whether the numbers of elements and of digests are those of one table.

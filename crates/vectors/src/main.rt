@@ -12,6 +12,19 @@ ghost use Rattle.vectors.specs.Hex.{hex_value};
 use digest::{Digest, Fnv, Sum};
 use std::alloc::{AllocError, Global};
 
+// Why a line gives no bytes.
+#[derive(Drop)]
+enum LineError {
+    NotHexadecimal,
+    OutOfMemory(AllocError),
+}
+
+impl From<AllocError> for LineError {
+    fn from(error: AllocError) -> LineError {
+        LineError::OutOfMemory(error)
+    }
+}
+
 // The value of a hexadecimal digit, or none where `b` is no such digit.
 fn digit(b: u8) -> Option<u8>
     ensures value { result ≡ hex_value b }
@@ -24,38 +37,33 @@ fn digit(b: u8) -> Option<u8>
     }
 }
 
-// The bytes that a line spells, or none where it is not pairs of hexadecimal digits.
-fn bytes_of(heap: Global, line: &[u8]) -> Result<Option<Vec<u8>>, AllocError> {
-    let mut bytes = Vec::new(heap);
-    if line.len() % 2 != 0 {
-        return Ok(None);
+// The byte of two hexadecimal digits, or none where one of them is no such digit.
+fn byte([high, low]: &[u8; 2]) -> Option<u8> {
+    Some(digit(*high)? * 16 + digit(*low)?)
+}
+
+// The bytes that a line spells, two digits each.
+fn bytes_of(heap: Global, line: &[u8]) -> Result<Vec<u8>, LineError> {
+    let (pairs, rest) = line.as_chunks::<2>();
+    if !rest.is_empty() {
+        return Err(LineError::NotHexadecimal);
     }
-    for pair in line.chunks(2) {
-        let [high, low] = pair else {
-            return Ok(None);
-        };
-        let Some(high) = digit(*high) else {
-            return Ok(None);
-        };
-        let Some(low) = digit(*low) else {
-            return Ok(None);
-        };
-        bytes.push(high * 16 + low)?;
-    }
-    Ok(Some(bytes))
+    pairs
+        .iter()
+        .map(|pair| byte(pair).ok_or(LineError::NotHexadecimal))
+        .try_collect(heap)
 }
 
 fn main(rt: HostRuntime) -> anyhow::Result<()> {
     for line in rt.lines(rt.alloc()) {
-        let line = line?;
-        match bytes_of(rt.alloc(), line.as_bytes())? {
-            Some(bytes) => {
-                let fnv = Fnv.digest(bytes.as_slice());
-                let sum = Sum.digest(bytes.as_slice());
-                let length = bytes.len();
-                println!(rt; "{fnv:016x} {sum} {length}")?;
+        match bytes_of(rt.alloc(), line?.as_bytes()) {
+            Ok(bytes) => {
+                let fnv = Fnv.digest(&bytes);
+                let sum = Sum.digest(&bytes);
+                println!(rt; "{fnv:016x} {sum} {}", bytes.len())?;
             }
-            None => println!(rt; "not hexadecimal")?,
+            Err(LineError::NotHexadecimal) => println!(rt; "not hexadecimal")?,
+            Err(LineError::OutOfMemory(error)) => return Err(error.into()),
         }
     }
     Ok(())

@@ -1,15 +1,26 @@
-use Rattle.std.proofs.Common.{sym, ap, ◌∙◌, arith}
-use Rattle.tree.specs.Walk.{follow}
-use Rattle.tree.proofs.Levels.{ranges}
-use Rattle.tree.proofs.Following.{rule}
-use Rattle.tree.proofs.Forward.{preorder}
+use Rattle.std.proofs.Common.{sym, ◌∙◌, arith}
+use Rattle.tree.proofs.Following.{after_all_ones, left_fits, after_end, after_left}
 use Rattle.tree.proofs.walk.next_range.Goals as goal
 
-pub returns-then-n-eq1 : goal.returns-then-n-eq1
-returns-then-n-eq1 c = record { value = sym rule.one ∙ ap follow (sym c.if-n-eq1.true) ∙ c.loop-n.invariant.1; rule = rule; ranges = ranges; preorder = preorder }
+pub returns-in_err-halved-clause-value : goal.returns-in_err-halved-clause-value
+returns-in_err-halved-clause-value c =
+    let t = c.trailing_ones.ensures in
+    c.from_residual.ensures ∙ sym (after_all_ones c.args.range (omega arith) (λ h. c.in_err-halved.ensures (omega arith)))
 
-pub loop-n-preserved : goal.loop-n-preserved
-loop-n-preserved c = (omega arith, sym (rule.odd c.loop-n.n c.loop-n-test.true (omega arith)) ∙ c.loop-n.invariant.1)
+pub overflow_add-result : goal.overflow_add-result
+overflow_add-result c =
+    let h = c.in_ok-halved in
+    let f = left_fits c.args.range _ _ (omega arith) c.trailing_ones.ensures h.ensures.0 h.ensures.1 in
+    omega arith
 
-pub returns : goal.returns
-returns c = record { value = sym (rule.even c.loop-n.n (omega arith)) ∙ c.loop-n.invariant.1; rule = rule; ranges = ranges; preorder = preorder }
+pub returns-then-range-gt0-clause-value : goal.returns-then-range-gt0-clause-value
+returns-then-range-gt0-clause-value c =
+    let h = c.in_ok-halved in
+    let v = after_end c.args.range _ _ (omega arith) c.trailing_ones.ensures h.ensures.0 h.ensures.1 c.if-range-gt0.true c.if-halved-eq0.true in
+    sym v
+
+pub returns-else-halved-eq0-clause-value : goal.returns-else-halved-eq0-clause-value
+returns-else-halved-eq0-clause-value c =
+    let h = c.in_ok-halved in
+    let v = after_left c.args.range _ _ (omega arith) c.trailing_ones.ensures h.ensures.0 h.ensures.1 c.else-halved-eq0.either in
+    sym v
