@@ -1,49 +1,37 @@
--- The frames that wait in the first of some places.
-use Rattle.std.proofs.Common.{◌≡◌, ℕ, zero, suc, ◌+◌, ◌-◌, ◌<◌, ◌≤◌, true, false, List, [], ◌∷◌, ◌++◌, map, length, get_or, take, drop, set, sym, ap, ◌∙◌, add-one, arith}
-use Rattle.std.proofs.lemmas.List.{take_more_set, map_push, map-append, append_assoc, drop-drop, length-drop, take_all, take-map, drop-map, length-map, length-take-le, take-append-le, get_or-take, get_or-map}
-use Rattle.std.proofs.lemmas.Bool.{cond-true, cond-false}
-use Rattle.std.proofs.lemmas.Bool.Decides.{nat_tests}
-use Rattle.channel.specs.declared.packet.Packet.{Packet}
-use Rattle.channel.specs.declared.places.Places.{Places}
-use Rattle.channel.specs.Links.{Carried}
-use Rattle.channel.specs.Packets.{body, waiting_in, waits}
-use Rattle.channel.specs.Queues.{kept, put_among}
+-- What waits in the first n of some places xs.
+use Rattle.std.proofs.Common.{◌≡◌, ℕ, zero, suc, ◌+◌, ◌-◌, ◌<◌, ◌≤◌, List, [], ◌∷◌, ◌++◌, length, take, drop, remove, slice_get, Some, None, refl, ap, ap₂, sym, ◌∙◌, add-one, length-append, length-drop, arith}
+use Rattle.std.specs.List.{copy_within}
+use Rattle.std.proofs.lemmas.List.{drop-take, length-take-le, take-append-le, take_all, take-append-drop}
+use Rattle.std.proofs.lemmas.Option.{slice_get_within}
 
-length_waiting : (ps : List Packet) (n : ℕ) → n ≤ length ps → length (waiting_in ps n) ≡ n
-length_waiting ps n h = length-map (take n ps) body ∙ length-take-le n ps h
+module _ {X : Type 0} where
+  -- Where something waits at place `at`, that place is one of the n.
+  pub waits_within : (xs ws : List X) (n at : ℕ) (x : X) → n ≤ length xs → take n xs ≡ ws → slice_get ws at ≡ Some x → at < n
+  waits_within xs ws n at x h e g = omega (arith, length-take-le n xs h, ap length e, slice_get_within ws at x g)
 
-pub as_many : (p : Places) → length (waits p) ≡ p.waiting
-as_many p = length_waiting p.packets p.waiting (omega arith)
+  -- Where nothing waits there, nothing is removed.
+  pub none_removed : (ws : List X) (at : ℕ) → slice_get ws at ≡ None → ws ≡ remove ws at
+  none_removed [] zero e = refl
+  none_removed [] (suc at) e = refl
+  none_removed (w ∷ ws) zero e = cc
+  none_removed (w ∷ ws) (suc at) e = ap (λ vs. w ∷ vs) (none_removed ws at e)
 
-pub at_place : (ps : List Packet) (n at : ℕ) (d : Packet) → at < n → n ≤ length ps → body (get_or ps at d) ≡ get_or (waiting_in ps n) at []
-at_place ps n at d h k =
-    let l = length-take-le n ps k in
-    sym (get_or-map body (take n ps) at d [] (omega arith) ∙ ap body (get_or-take n ps at d h))
-
-pub put_in : (places : ℕ) (ps : List Packet) (n : ℕ) (p : Packet) (f : List ℕ) → n < places → n < length ps → Carried f → body p ≡ f → waiting_in (set ps n p) (n + 1) ≡ put_among places (waiting_in ps n) f
-put_in places ps n p f h k c e =
-    let w = length_waiting ps n (omega arith) in
-    let ok : kept places (waiting_in ps n) f ≡ true = grind (arith, nat_tests) in
-    ap (map body) (take_more_set ps n p k) ∙ map_push body (take n ps) p ∙ ap (λ (g : List ℕ). waiting_in ps n ++ (g ∷ [])) e ∙ sym (cond-true _ _ _ ok)
-
-pub put_full : (places : ℕ) (ps : List Packet) (n : ℕ) (f : List ℕ) → n ≡ places → n ≤ length ps → waiting_in ps n ≡ put_among places (waiting_in ps n) f
-put_full places ps n f h k =
-    let w = length_waiting ps n k in
-    let no : kept places (waiting_in ps n) f ≡ false = grind (arith, nat_tests) in
-    sym (cond-false _ _ _ no)
-
--- A list from which an element was taken and set behind all others, cut to one less.
-cut : {X : Type 0} (xs ys : List X) (at m : ℕ) → at ≤ m → m < length xs → take m (take at xs ++ (drop (suc at) xs ++ ys)) ≡ take at (take (suc m) xs) ++ drop (suc at) (take (suc m) xs)
-cut [] ys at m h k = absurd (omega arith)
-cut (x ∷ xs) ys zero m h k = take-append-le m xs ys (omega arith)
-cut (x ∷ xs) ys (suc at) zero h k = absurd (omega arith)
-cut (x ∷ xs) ys (suc at) (suc m) h k = ap (λ zs. x ∷ zs) (cut xs ys at m (omega arith) (omega arith))
-
--- The places from `at` on were turned by one: qs is what they hold then, and zs what stands behind them.
-pub removed_at : (ps qs zs : List Packet) (n at : ℕ) → at < n → n ≤ 64 → length ps ≡ 64 → qs ≡ drop 1 (take (64 - at) (drop at ps)) ++ take 1 (take (64 - at) (drop at ps)) → waiting_in (take at ps ++ (qs ++ zs)) (n - 1) ≡ take at (waiting_in ps n) ++ drop (at + 1) (waiting_in ps n)
-removed_at ps qs zs n at h k l e =
-    let whole = take_all (64 - at) (drop at ps) (omega (arith, length-drop at ps)) in
-    let turned = ap (λ (q : List Packet). q ++ zs) (rw (whole, drop-drop 1 at ps) at e) ∙ append_assoc (drop (at + 1) ps) (take 1 (drop at ps)) zs in
-    let m : suc (n - 1) ≡ n = omega arith in
-    let less = rw (← add-one at, m) at (cut ps (take 1 (drop at ps) ++ zs) at (n - 1) (omega arith) (omega arith)) in
-    ap (λ (q : List Packet). waiting_in (take at ps ++ q) (n - 1)) turned ∙ ap (map body) less ∙ simp (map-append, take-map, drop-map)
+  -- Place `at` is given up: what waited behind it was copied to where it begins.
+  pub moved_up : (xs ys ws : List X) (n at : ℕ) → n ≤ length xs → at < n → take n xs ≡ ws → ys ≡ copy_within xs (at + 1) n at → take (n - 1) ys ≡ remove ws at
+  moved_up xs ys ws n at h k e g =
+      let m = n - (at + 1) in
+      let before = take at xs in
+      let behind = take m (drop (at + 1) xs) in
+      let whole = length-append before behind in
+      let b = length-take-le at xs (omega arith) in
+      let c = length-take-le m (drop (at + 1) xs) (omega (arith, length-drop (at + 1) xs)) in
+      let w = length-take-le n xs h in
+      let same : at + 1 + m ≡ n = omega arith in
+      let first : before ≡ take at (take n xs) =
+      ap (take at) (sym (take-append-drop n xs)) ∙ take-append-le at (take n xs) (drop n xs) (omega arith) in
+      let last : drop (at + 1) (take n xs) ≡ behind = rw same at (drop-take (at + 1) m xs) in
+      ap (take (n - 1)) g
+      ∙ take-append-le (n - 1) (before ++ behind) (drop (at + m) xs) (omega arith)
+      ∙ take_all (n - 1) (before ++ behind) (omega arith)
+      ∙ ap₂ ◌++◌ first (sym last ∙ ap (λ (k : ℕ). drop k (take n xs)) (add-one at))
+      ∙ ap (λ (us : List X). remove us at) e

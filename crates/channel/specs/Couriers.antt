@@ -1,22 +1,12 @@
 -- The courier: 64 places, and a list of picks (bytes) that say what becomes of the frames that wait.
 use Rattle.std.specs.Prelude.{◌≡◌, ℕ, ◌+◌, ◌%◌, cond, List, [], ◌∷◌, ◌++◌, length, take, drop, Some, None, Option, nat_lt, slice_index_or}
-use Rattle.channel.specs.declared.courier.Courier.{Courier}
-use Rattle.channel.specs.declared.picks.Picks.{Picks}
 use Rattle.channel.specs.Links.{Link}
-use Rattle.channel.specs.Packets.{waits}
 use Rattle.channel.specs.Queues.{after_put}
 
--- The picks that are left, the next one first.
-abbrev pub unused : Picks → List ℕ
-unused p = drop p.from p.bytes
-
--- The frames that wait, and the picks that are left.
+-- The frames that wait, the oldest first, and the picks that are left, the next one first.
 pub record Cargo : Type 0 where
   pub waiting : List (List ℕ)
   pub picks : List ℕ
-
-abbrev pub cargo : Courier → Cargo
-cargo c = record { waiting = waits c.places; picks = unused c.picks }
 
 -- What a take answers, and what it leaves.
 pub record Pick : Type 0 where

@@ -1,21 +1,12 @@
 -- Packets: frames as a channel keeps them, in memory of their own.
-use Rattle.std.specs.Prelude.{ℕ, List, map, take, Option}
-use Rattle.std.specs.Option.{option_map}
-use Rattle.channel.specs.declared.packet.Packet.{Packet}
-use Rattle.channel.specs.declared.places.Places.{Places}
+use Rattle.std.specs.Prelude.{◌≡◌, ℕ, ◌-◌, ◌≤◌, List, ◌++◌, length, drop, replicate}
 
--- The frame that a packet holds.
-abbrev pub body : Packet → List ℕ
-body p = take p.len p.bytes
+-- The memory of a packet that holds the frame f: the frame, and zeros behind it.
+abbrev pub padded : List ℕ → List ℕ
+padded f = f ++ replicate (71 - length f) 0
 
--- The frames that the first n places hold.
-abbrev pub waiting_in : List Packet → ℕ → List (List ℕ)
-waiting_in ps n = map body (take n ps)
-
--- The frames that wait in the 64 places, the oldest first.
-abbrev pub waits : Places → List (List ℕ)
-waits p = waiting_in p.packets p.waiting
-
--- What a take answered, as a frame.
-abbrev pub arrived : Option Packet → Option (List ℕ)
-arrived o = option_map body o
+-- The 71 bytes bs hold a frame of n bytes, and zeros behind it.
+pub record Padded (bs : List ℕ) (n : ℕ) : Type 0 where
+  pub full : length bs ≡ 71
+  pub room : n ≤ 71
+  pub zeros : drop n bs ≡ replicate (71 - n) 0

@@ -1,14 +1,10 @@
--- What the in-order channel takes first, and that it is fair.
-use Rattle.std.specs.Prelude.{◌≡◌, ℕ, ◌<◌, List, [], ◌∷◌, length, Some, slice_index_or, refl}
-use Rattle.std.proofs.Common.{sym, subst, arith}
+-- The in-order channel is fair.
+use Rattle.std.specs.Prelude.{ℕ, List, [], ◌∷◌, refl}
+use Rattle.std.proofs.Common.{sym, subst}
 use mathlib.Core.List.{Memᴰ}
 use Rattle.channel.specs.Links.{Fair}
 use Rattle.channel.specs.Queues.{first, queue}
 use Rattle.channel.specs.Members.{From, in_drop, in_put}
-
-pub first_at : (ws : List (List ℕ)) → 0 < length ws → Some (slice_index_or ws 0 []) ≡ first ws
-first_at [] h = absurd (omega arith)
-first_at (w ∷ ws) h = refl
 
 from_first : (ws : List (List ℕ)) → From ws (first ws)
 from_first [] = tt

@@ -1,31 +1,48 @@
 // The in-order channel: 64 places, first in, first out.
-ghost use Rattle.std.specs.Prelude.{◌≡◌, []};
-ghost use Rattle.channel.specs.Packets.{waits};
+ghost use Rattle.std.specs.Prelude.{◌≡◌, ◌≤◌, [], length};
 ghost use Rattle.channel.specs.Queues.{queue};
 ghost use Rattle.channel.specs.Queueing.{fair_queue};
 
-use crate::Channel;
 use crate::packet::Packet;
 use crate::places::Places;
+use crate::{Channel, PLACES};
+use std::marker::Model;
 
 #[derive(Drop)]
 pub struct InOrder {
-    places: Places,
+    places: Places<PLACES>,
+}
+
+// Clauses see the frames that wait, the oldest first.
+impl Model for InOrder {
+    ghost use Rattle.std.specs.Prelude.{ℕ, List};
+
+    ghost Value = { List (List ℕ) };
+
+    ghost view = { λ c. c.places };
 }
 
 impl InOrder {
     // Nothing waits.
     pub fn new() -> InOrder
-        ensures { waits result.places ≡ [] }
+        ensures { result ≡ [] }
     {
         InOrder {
             places: Places::new(),
         }
     }
+
+    // How many frames wait.
+    pub fn waiting(&self) -> usize
+        ensures count { result ≡ length self.now }
+        ensures within { result ≤ 64 }
+    {
+        self.places.len()
+    }
 }
 
 impl Channel for InOrder {
-    ghost link = { queue (λ c. waits c.places) };
+    ghost link = { queue (λ c. c) };
 
     ghost fair = { fair_queue _ };
 
@@ -34,12 +51,6 @@ impl Channel for InOrder {
     }
 
     fn take(&mut self) -> Option<Packet> {
-        let n = self.places.count();
-        if n == 0 {
-            return None;
-        }
-        let first = self.places.packet(0);
-        self.places.remove(0);
-        Some(first)
+        self.places.remove(0)
     }
 }

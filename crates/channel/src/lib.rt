@@ -2,7 +2,6 @@
 #![tactic(auto)]
 
 ghost use Rattle.channel.specs.Links.{Link, Fair};
-ghost use Rattle.channel.specs.Packets.{arrived};
 
 mod courier;
 mod in_order;
@@ -13,6 +12,10 @@ mod places;
 pub use courier::Courier;
 pub use in_order::InOrder;
 pub use packet::Packet;
+pub use places::Places;
+
+// How many frames may wait in each of the two channels supplied.
+const PLACES: usize = 64;
 
 // A channel in one direction: one side puts frames in, the other takes them out.
 // What exactly a put and a take do is the link; what every channel shows of it is the law.
@@ -25,7 +28,7 @@ pub trait Channel {
 
     // A frame that came, or none.
     fn take(&mut self) -> Option<Packet>
-        ensures { link.takes self.old (arrived result) self.new };
+        ensures { link.takes self.old result self.new };
 
     ghost fair: { Fair link };
 }

@@ -1,16 +1,83 @@
-// 64 places for frames that wait, which the supplied channels have in common. The type stands in a file apart from its
-// calls, whose contracts cite a definition that speaks of it.
-ghost use Rattle.std.specs.Prelude.{◌≡◌, ◌≤◌, length};
+// Places in which a channel keeps the frames that wait.
+ghost use Rattle.std.specs.Prelude.{◌≡◌, ◌≤◌, ◌↔◌, [], length, remove, slice_get, IsTrue};
+ghost use Rattle.channel.specs.Queues.{put_among};
 
 use crate::packet::Packet;
+use std::marker::Model;
 
-mod calls;
-
-// The frames that wait stand in the first `waiting` places, the oldest first.
+// The frames that wait stand in the first `waiting` of the `N` places, the oldest first.
+// An array with a count beside it: a channel keeps its frames in memory of its own, without a heap.
 #[derive(Drop)]
-pub(crate) struct Places {
-    packets: [Packet; 64],
+pub struct Places<const N: usize> {
+    packets: [Packet; N],
     waiting: usize,
-    ghost full: { length packets ≡ 64 },
-    ghost room: { waiting ≤ 64 },
+}
+
+// Clauses see the frames that wait, the oldest first.
+impl<const N: usize> Model for Places<N> {
+    ghost use Rattle.std.specs.Prelude.{ℕ, ◌≤◌, List, take};
+
+    ghost Value = { List (List ℕ) };
+
+    ghost view = { λ p. take p.waiting p.packets };
+
+    ghost invariant = { λ p. p.waiting ≤ N };
+}
+
+impl<const N: usize> Places<N> {
+    // Nothing waits.
+    pub fn new() -> Self
+        ensures { result ≡ [] }
+    {
+        Places {
+            packets: [Packet::empty(); N],
+            waiting: 0,
+        }
+    }
+
+    // How many frames wait.
+    pub fn len(&self) -> usize
+        ensures count { result ≡ length self.now }
+        ensures within { result ≤ N }
+    {
+        self.packets[..self.waiting].len()
+    }
+
+    pub fn is_empty(&self) -> bool
+        ensures { IsTrue result ↔ (self.now ≡ []) }
+    {
+        self.len() == 0
+    }
+
+    // The frame at place `at`, or none where none waits there.
+    pub fn get(&self, at: usize) -> Option<Packet>
+        ensures { result ≡ slice_get self.now at }
+    {
+        self.packets[..self.waiting].get(at).copied()
+    }
+
+    // The frame joins at the end, or is lost where `N` wait or no packet can hold it.
+    pub fn put(&mut self, frame: &[u8])
+        ensures { self.new ≡ put_among N self.old frame.now }
+    {
+        if self.waiting == N {
+            return;
+        }
+        if let Some(packet) = Packet::new(frame) {
+            self.packets[self.waiting] = packet;
+            self.waiting += 1;
+        }
+    }
+
+    // Removes the frame at place `at` and answers it, or none where none waits there. Those behind it move up by one.
+    #[tactic(auto, using(crate::proofs::Waiting::waits_within, crate::proofs::Waiting::none_removed))]
+    pub fn remove(&mut self, at: usize) -> Option<Packet>
+        ensures removed { result ≡ slice_get self.old at }
+        ensures left { self.new ≡ remove self.old at }
+    {
+        let removed = self.get(at)?;
+        self.packets.copy_within(at + 1..self.waiting, at);
+        self.waiting -= 1;
+        Some(removed)
+    }
 }

@@ -16,10 +16,9 @@ mod tests {
 
     // Takes from `channel`: whether `frame` comes.
     fn comes<C: Channel>(channel: &mut C, frame: &[u8]) -> bool {
-        match channel.take() {
-            Some(packet) => packet.as_bytes() == frame,
-            None => false,
-        }
+        channel
+            .take()
+            .is_some_and(|packet| packet.as_bytes() == frame)
     }
 
     #[test]
@@ -91,6 +90,27 @@ mod tests {
         courier.put(&[10]);
         assert!(rt; comes(&mut courier, &[10]));
         assert!(rt; courier.take().is_none());
+    }
+
+    // A pick that repeats a frame is used up, too.
+    #[test]
+    fn frames_and_picks_are_counted(rt: HostRuntime) {
+        let mut channel = InOrder::new();
+        channel.put(&[1]);
+        channel.put(&[2]);
+        assert_eq!(rt; channel.waiting(), 2);
+        let mut courier = Courier::new(&[0, 128]);
+        courier.put(&[1]);
+        assert!(rt; courier.waiting() == 1 && courier.picks_left() == 2);
+        assert!(rt; comes(&mut courier, &[1]));
+        assert!(rt; courier.waiting() == 1 && courier.picks_left() == 1);
+        assert!(rt; courier.take().is_none());
+        assert!(rt; courier.waiting() == 0 && courier.picks_left() == 0);
+        let mut stack = Stack::new();
+        stack.put(&[1]);
+        stack.put(&[2]);
+        stack.put(&[3]);
+        assert_eq!(rt; stack.waiting(), 3);
     }
 
     #[test]

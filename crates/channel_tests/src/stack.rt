@@ -1,57 +1,55 @@
 // A channel of 4 places that answers the newest frame first.
 ghost use Rattle.std.specs.Prelude.{◌≡◌, ◌≤◌, [], length};
-ghost use Rattle.channel.specs.Packets.{waiting_in};
 ghost use Rattle.channel_tests.specs.Stacks.{stack};
 ghost use Rattle.channel_tests.specs.Stacking.{fair_stack};
 
-use channel::{Channel, Packet};
+use channel::{Channel, Packet, Places};
+use std::marker::Model;
 
-// The frames that wait stand in the first `waiting` places, the newest last.
 #[derive(Drop)]
 pub struct Stack {
-    packets: [Packet; 4],
-    waiting: usize,
-    ghost full: { length packets ≡ 4 },
-    ghost room: { waiting ≤ 4 },
+    places: Places<4>,
+}
+
+// Clauses see the frames that wait, the newest last.
+impl Model for Stack {
+    ghost use Rattle.std.specs.Prelude.{ℕ, List};
+
+    ghost Value = { List (List ℕ) };
+
+    ghost view = { λ c. c.places };
 }
 
 impl Stack {
-    // Nothing waits. A frame of one byte fills the places.
+    // Nothing waits.
     pub fn new() -> Stack
-        ensures { waiting_in result.packets result.waiting ≡ [] }
+        ensures { result ≡ [] }
     {
-        let Some(filler) = Packet::new(&[0]) else {
-            unreachable()
-        };
         Stack {
-            packets: [filler; 4],
-            waiting: 0,
+            places: Places::new(),
         }
+    }
+
+    // How many frames wait.
+    pub fn waiting(&self) -> usize
+        ensures count { result ≡ length self.now }
+        ensures within { result ≤ 4 }
+    {
+        self.places.len()
     }
 }
 
 impl Channel for Stack {
-    ghost link = { stack (λ c. waiting_in c.packets c.waiting) };
+    ghost link = { stack (λ c. c) };
 
     ghost fair = { fair_stack _ };
 
     fn put(&mut self, frame: &[u8]) {
-        let n = self.waiting;
-        if n == 4 {
-            return;
-        }
-        let Some(packet) = Packet::new(frame) else {
-            return;
-        };
-        self.packets[n] = packet;
-        self.waiting = n + 1;
+        self.places.put(frame);
     }
 
     fn take(&mut self) -> Option<Packet> {
-        if self.waiting == 0 {
-            return None;
-        }
-        self.waiting -= 1;
-        Some(self.packets[self.waiting])
+        let newest = self.places.len().checked_sub(1)?;
+        self.places.remove(newest)
     }
 }

@@ -1,7 +1,12 @@
-use Rattle.channel.proofs.Waiting.{removed_at}
+use Rattle.std.proofs.Common.{sym, ◌∙◌, arith}
+use Rattle.channel.proofs.Waiting.{waits_within, moved_up}
 use Rattle.channel.proofs.places.Places.remove.Goals as goal
 
-pub returns : goal.returns
-returns c =
-    let old = c.args.self.now in
-    removed_at old.packets _ _ old.waiting c.args.at c.requires old.room old.full c.rotate_left.ensures.after
+pub returns-clause-left : goal.returns-clause-left
+returns-clause-left g c =
+    let places = c.self.inside.packets in
+    let found = sym c.get.ensures ∙ c.in_ok-removed.was in
+    let n = c.self.inside.waiting in
+    let at = c.args.at in
+    let within = waits_within places _ n at _ (omega arith) c.self.view_is found in
+    moved_up places _ _ n at (omega arith) within c.self.view_is c.copy_within.ensures.after
