@@ -1,7 +1,7 @@
 -- What an event does at one end, and to the channel toward the other: one case for each thing that a call can do.
 use Rattle.std.proofs.Common.{◌≡◌, ℕ, ◌-◌, ◌*◌, ◌<◌, Bool, true, false, cond, eqb, ltb, List, get_or, Some, None, Ok, Err, Option, Result, sym, refl, ap, ◌∙◌, subst, inl, inr, ⊎_elim, arith}
 use Rattle.std.proofs.lemmas.Bool.{both_ways, and_parts, eqb-true, eqb-false, ltb-true}
-use Rattle.element.specs.Options.{same_some}
+use Rattle.std.proofs.lemmas.Option.{same_Some}
 use Rattle.element.specs.Tables.{held_at}
 use Rattle.element.specs.declared.refusal.Refusal.{Refusal}
 use Rattle.element.specs.declared.refusal.Refusal.TheVariants.{Size, Key, Busy, Idle, Spent, Stale}
@@ -263,7 +263,7 @@ module _ (S : Setting) where
           let known = b.sent e bs c in
           let reading = ap (λ (n : ℕ). decoded S.m n bs) (sym (b.shaped e).size) ∙ d in
           let back = ap (decoded S.m S.N) (sym known.bytes) ∙ (reads S.laws S.N (sized_high S.N S.is_size)).back known.frame known.lawful in
-          let is : known.frame ≡ f = same_some (sym back ∙ reading) in
+          let is : known.frame ≡ f = same_Some _ _ (sym back ∙ reading) in
           let spells : written f ≡ bs = ap written (sym is) ∙ known.bytes in
           subst (λ (g : List ℕ). Act (stepped e (Some g) (Ok a)) p q e) spells
           (reacts_act f (record { lawful = subst (Lawful S.m S.N) is known.lawful; comes = subst (Comes S p e) (sym spells) c }) a w)

@@ -7,7 +7,7 @@ use Rattle.replica.specs.Calls.{if_ok, IfAccepted}
 use Rattle.replica.specs.Replicas.{Replica}
 use Rattle.replica.specs.Steps.{Steps}
 use Rattle.replica.specs.declared.answer.Answer.{Answer}
-use Rattle.peers.specs.Pairs.{End, other, Lines, lines, Pair, Event, laid, opened, resent, abandoned, stepped, Does, Called, Happens}
+use Rattle.peers.specs.Pairs.{End, other, Lines, lines, Pair, Event, opened, resent, stepped, Does, Called, Happens}
 use Rattle.peers.specs.States.{replicas, channels, pair_of, Goes, StepsTo}
 use Rattle.peers.specs.declared.pair.Peers.{Peers}
 use Rattle.peers.proofs.Declines.{declined_step}
@@ -26,17 +26,11 @@ module _ {R : Type 0} (m : Model R) (h : List ℕ → ℕ) (L : Lines) (e : End)
   declined : {A : Type 0} (y : Result A Refusal) (s t u : Replica R) → t ≡ if_ok y u s → (z : Refusal) → y ≡ Err z → t ≡ s
   declined {A = A} y s t u w z is = w ∙ ap (λ (r : Result A Refusal). if_ok r u s) is
 
-  pub laid_happens : (k : ℕ) (x : R) (y : Result (Unit {0}) Refusal) → Does m h L (laid e k x y) p q (p.replica e) (q.replica e) → q.replica (other e) ≡ p.replica (other e) → Happens m h L (laid e k x y) p q
-  laid_happens k x y w there = called y (laid e k x y) w (declined y _ _ _ w.0.after) there
-
   pub opened_happens : (y : Result (Unit {0}) Refusal) → Does m h L (opened e y) p q (p.replica e) (q.replica e) → q.replica (other e) ≡ p.replica (other e) → Happens m h L (opened e y) p q
   opened_happens y w there = called y (opened e y) w (declined y _ _ _ w.0.after) there
 
   pub resent_happens : (y : Result (Unit {0}) Refusal) → Does m h L (resent e y) p q (p.replica e) (q.replica e) → q.replica (other e) ≡ p.replica (other e) → Happens m h L (resent e y) p q
   resent_happens y w there = called y (resent e y) w (λ z is. w.1) there
-
-  pub abandoned_happens : (y : Result (Unit {0}) Refusal) → Does m h L (abandoned e y) p q (p.replica e) (q.replica e) → q.replica (other e) ≡ p.replica (other e) → Happens m h L (abandoned e y) p q
-  abandoned_happens y w there = called y (abandoned e y) w (declined y _ _ _ w.0.after) there
 
   pub stepped_happens : (got : Option (List ℕ)) (y : Result Answer Refusal) → Does m h L (stepped e got y) p q (p.replica e) (q.replica e) → q.replica (other e) ≡ p.replica (other e) → Happens m h L (stepped e got y) p q
   stepped_happens got y w there = called y (stepped e got y) w (λ z is. (declined_step m h (L.link (other e)) (p.replica e) (q.replica e) _ _ z (L.link e) _ _ got (subst Stepping is w)).replica) there
@@ -56,17 +50,11 @@ module _ {E D A B : Type 0} (a : Link A) (b : Link B) (m : Model E) (f : D → L
   goes_at : (v : End → Event E) → q.digest ≡ p.digest → At (v e) → There → Happens m (f p.digest) (lines a b) (v e) (pair_of a b p) (pair_of a b q) → {d : End} → d ≡ e → Goes a b m f d (v d) p q
   goes_at v same-digest w there is {d} at = subst (λ (x : End). Goes a b m f x (v x) p q) (sym at) (record { digest = same-digest; does = w; there = there; happens = is })
 
-  pub laid_goes : (k : ℕ) (x : E) (y : Result (Unit {0}) Refusal) → q.digest ≡ p.digest → At (laid e k x y) → There → {d : End} → d ≡ e → Goes a b m f d (laid d k x y) p q
-  laid_goes k x y same-digest w there = goes_at (λ (z : End). laid z k x y) same-digest w there (laid_happens m (f p.digest) (lines a b) e (pair_of a b p) (pair_of a b q) k x y w there)
-
   pub opened_goes : (y : Result (Unit {0}) Refusal) → q.digest ≡ p.digest → At (opened e y) → There → {d : End} → d ≡ e → Goes a b m f d (opened d y) p q
   opened_goes y same-digest w there = goes_at (λ (z : End). opened z y) same-digest w there (opened_happens m (f p.digest) (lines a b) e (pair_of a b p) (pair_of a b q) y w there)
 
   pub resent_goes : (y : Result (Unit {0}) Refusal) → q.digest ≡ p.digest → At (resent e y) → There → {d : End} → d ≡ e → Goes a b m f d (resent d y) p q
   resent_goes y same-digest w there = goes_at (λ (z : End). resent z y) same-digest w there (resent_happens m (f p.digest) (lines a b) e (pair_of a b p) (pair_of a b q) y w there)
-
-  pub abandoned_goes : (y : Result (Unit {0}) Refusal) → q.digest ≡ p.digest → At (abandoned e y) → There → {d : End} → d ≡ e → Goes a b m f d (abandoned d y) p q
-  abandoned_goes y same-digest w there = goes_at (λ (z : End). abandoned z y) same-digest w there (abandoned_happens m (f p.digest) (lines a b) e (pair_of a b p) (pair_of a b q) y w there)
 
   pub stepped_goes : (y : Result Answer Refusal) → q.digest ≡ p.digest
       → Steps m (f p.digest) ((lines a b).link (other e)) ((lines a b).link e) (replicas a b p e) (replicas a b q e) (channels a b p e) (channels a b q e) (channels a b p (other e)) (channels a b q (other e)) y

@@ -1,6 +1,6 @@
 -- The order of elements, in the shape in which the proofs of this crate use it.
 use Rattle.std.proofs.Common.{◌≡◌, Some, sym, ◌∙◌, subst}
-use Rattle.element.specs.Options.{same_some}
+use Rattle.std.proofs.lemmas.Option.{same_Some}
 use Rattle.element.proofs.Orders.{order, join_sees_right}
 use Rattle.element.specs.Order.{Same, AtMost}
 use Rattle.peers.proofs.Settings.{Setting}
@@ -39,5 +39,5 @@ module _ (S : Setting) where
   -- what is read from an element's bytes is that element
   pub read_same : (x y : S.R) → S.m.parsed (S.m.written y) ≡ Some x → Same S.m x y
   read_same x y h =
-      let is = same_some (sym h ∙ S.laws.read_back y) in
+      let is = same_Some _ _ (sym h ∙ S.laws.read_back y) in
       record { is = subst (λ (z : S.R). S.m.means z ≡ S.m.means y) (sym is) (sym (S.laws.join_idem (S.m.means y)) ∙ S.laws.join_sees y (S.m.means y) ∙ join_sees_right S.laws y y ∙ S.laws.join_idem y) }

@@ -2,7 +2,7 @@
 use Rattle.std.proofs.Common.{◌≡◌, ℕ, ◌-◌, ◌*◌, ◌^◌, ◌<◌, ◌≤◌, Bool, true, false, cond, ltb, ◌⊎◌, List, [], ◌∷◌, length, get_or, set, Some, None, Option, sym, refl, ap, ◌∙◌, subst, inl, inr, ⊎_elim, arith}
 use Rattle.std.proofs.lemmas.List.{length-set}
 use Rattle.std.proofs.lemmas.Bool.{cond-true, ltb-true, ltb-false}
-use Rattle.element.specs.Options.{same_some}
+use Rattle.std.proofs.lemmas.Option.{same_Some}
 use Rattle.element.specs.Tables.{held_at}
 use Rattle.frame.proofs.Codecs.{reads}
 use Rattle.frame.specs.Decoding.{decoded}
@@ -87,7 +87,7 @@ module _ (S : Setting) where
     shaped_next (gives r i bs x is l y h a) = subst (Shaped S) (sym h) (absorbed_shaped (p.replica e) (i - S.N) x (b.shaped e) (let two = l.lawful.1 in omega arith))
     shaped_next (agrees r i c w) = went_shaped (same r i) r i c (follow i) (p.replica e) (b.shaped e) refl (λ k j is. settled_walks i j is k) w
     shaped_next (differs r i c w) =
-        went_shaped (differ r i) r i c (Some (2 * i)) (p.replica e) (b.shaped e) refl (λ k j is. subst (Walks S) (same_some is) (split_walks i w.due.lawful.1.high k)) w
+        went_shaped (differ r i) r i c (Some (2 * i)) (p.replica e) (b.shaped e) refl (λ k j is. subst (Walks S) (same_Some _ _ is) (split_walks i w.due.lawful.1.high k)) w
     shaped_next (receives r i c bs x y w) =
         went_shaped (held r i bs) r i c (follow i) (absorbed S.m S.h (p.replica e) (i - S.N) x)
         (absorbed_shaped (p.replica e) (i - S.N) x (b.shaped e) (let two = w.due.lawful.1 in omega arith)) refl (λ k j is. settled_walks i j is k) w
@@ -130,7 +130,7 @@ module _ (S : Setting) where
   one_frame : (f g : Frame) → Lawful S.m S.N f → Lawful S.m S.N g → written f ≡ written g → f ≡ g
   one_frame f g l k h =
       let codec = reads S.laws S.N (sized_high S.N S.is_size) in
-      same_some (sym (codec.back f l) ∙ ap (decoded S.m S.N) h ∙ codec.back g k)
+      same_Some _ _ (sym (codec.back f l) ∙ ap (decoded S.m S.N) h ∙ codec.back g k)
 
   module _ (v : Event S.R) (p q : Peers S) (b : Sound S p) (w : Happens S.m S.h S.L v p q) where
     -- So it is after each event.

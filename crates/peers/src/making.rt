@@ -1,6 +1,6 @@
 // The making of a pair.
 ghost use Rattle.channel.specs.Links.{Arrives};
-ghost use Rattle.peers.specs.States.{Owns, MakesPair, Begun};
+ghost use Rattle.peers.specs.States.{MakesPair, Begun};
 
 use crate::owner::Owner;
 use crate::pair::Peers;
@@ -9,36 +9,7 @@ use crate::unmade::Unmade;
 use channel::Channel;
 use digest::Digest;
 use element::{Element, Refusal};
-use replica::make;
 use std::alloc::Global;
-use tree::is_size;
-
-// Makes one replica, with a digest table of its own.
-fn own<E: Element, D: Digest>(heap: Global, digest: &D, start: Start<E>) -> Result<Owner<E>, Unmade>
-    ensures { Owns E.Element.model (D.Digest.function digest.now) start result }
-{
-    let elements = start.elements;
-    let size = elements.len();
-    if !is_size(size) {
-        return Err(Unmade::Refused(Refusal::Size));
-    }
-    let Ok(mut digests) = vec![in heap; 0u64; 2 * size] else {
-        return Err(Unmade::Memory);
-    };
-    match make(
-        digest,
-        elements.as_slice(),
-        digests.as_mut_slice(),
-        start.last,
-    ) {
-        Ok(round) => Ok(Owner {
-            round,
-            elements,
-            digests,
-        }),
-        Err(_) => Err(Unmade::Refused(Refusal::Size)),
-    }
-}
 
 impl<E: Element, D: Digest + Drop, A: Channel + Drop, B: Channel + Drop> Peers<E, D, A, B> {
     // Makes two replicas of one size, under one digest. Each channel is the one toward that end. With channels from which
@@ -58,8 +29,8 @@ impl<E: Element, D: Digest + Drop, A: Channel + Drop, B: Channel + Drop> Peers<E
             return Err(Unmade::Refused(Refusal::Size));
         }
         Ok(Peers {
-            left: own(heap, &digest, left)?,
-            right: own(heap, &digest, right)?,
+            left: Owner::new(heap, &digest, left)?,
+            right: Owner::new(heap, &digest, right)?,
             digest,
             to_left,
             to_right,

@@ -2,6 +2,7 @@ pub mod Walking
 pub mod Rounds
 pub mod Replicas
 pub mod Calls
+pub mod Loans
 pub mod Steps
 pub mod Pairs
 pub mod Runs

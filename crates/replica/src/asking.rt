@@ -1,6 +1,6 @@
 // Questions, put to a channel.
 ghost use Rattle.std.specs.Prelude.{◌≡◌, ◌*◌, ◌<◌, ◌≤◌, true, length};
-ghost use Rattle.frame.specs.Frames.{written, compare as frame_compare, offer as frame_offer};
+ghost use Rattle.frame.specs.Frames.{written};
 ghost use Rattle.frame.specs.Views.{viewed};
 ghost use Rattle.replica.specs.Replicas.{fitting, question, replica_of};
 
@@ -15,14 +15,15 @@ pub(crate) fn send<O: Channel>(message: Message<'_>, out: &mut O)
     requires { length (written (viewed message)) ≤ 71 }
     ensures { O.Channel.link.puts out.old (written (viewed message.entry)) out.new }
 {
+    // room for the longest frame: without a heap there is no buffer of just this frame's length
     let mut bytes = [0; 71];
-    match encode(message, &mut bytes) {
-        Some(n) => out.put(&bytes[0..n]),
-        None => unreachable(),
-    }
+    let n = encode(message, &mut bytes).unwrap();
+    out.put(&bytes[..n]);
 }
 
-// Puts the question of range `n`: its digest where it has halves, and of a single key its element.
+// Puts the question of range `n`: its digest where it has halves, and of a single key its element. It takes the parts of a
+// replica one by one, since open and resend are lent tables that they may not change, and a struct for this one function
+// would be made at each of its calls.
 pub(crate) fn ask<E: Element, D: Digest, O: Channel>(
     digest: &D,
     round: &Round,
@@ -37,32 +38,33 @@ pub(crate) fn ask<E: Element, D: Digest, O: Channel>(
     let place = usize::from(n);
     let size = usize::from(round.size);
     if place < size {
-        compare(round.last, n, digests[place], out);
+        send(
+            Message::Compare {
+                round: round.last,
+                range: n,
+                digest: digests[place],
+            },
+            out,
+        );
     } else {
-        offer(round.last, n, &elements[place - size], out);
+        let mut bytes = [0; 64];
+        let part = part_of(&elements[place - size], &mut bytes);
+        send(
+            Message::Offer {
+                round: round.last,
+                range: n,
+                part,
+            },
+            out,
+        );
     }
 }
 
-// Puts an offer of `x`.
-fn offer<E: Element, O: Channel>(round: u32, range: u16, x: &E, out: &mut O)
-    ensures { O.Channel.link.puts out.old (written (frame_offer round range (E.Element.model.written x.now))) out.new }
-{
-    let mut bytes = [0; 64];
-    let part = part_of(x, &mut bytes);
-    send(Message::Offer { round, range, part }, out);
-}
-
-// Puts a compare with a digest.
-fn compare<O: Channel>(round: u32, range: u16, digest: u64, out: &mut O)
-    ensures { O.Channel.link.puts out.old (written (frame_compare round range digest)) out.new }
-{
-    send(Message::compare(round, range, digest), out);
-}
-
-// The bytes of `x`, written at the front of `bytes`.
+// The bytes of `x`, written at the front of `bytes`. That has room for the widest element: without a heap there is no
+// buffer of just this type's width.
 pub(crate) fn part_of<'a, E: Element>(x: &E, bytes: &'a mut [u8; 64]) -> &'a [u8]
     ensures { result.now ≡ E.Element.model.written x.now }
 {
     x.write(bytes);
-    &bytes[0..E::width()]
+    &bytes[..E::width()]
 }

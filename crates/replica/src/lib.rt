@@ -1,9 +1,11 @@
 // A replica of a collection: an element table, a digest table, and the record of its round. Its owner keeps the tables
-// and hands both to each call.
+// and hands both to each call: so they are parameters of each call, and no struct's fields.
 #![tactic(auto)]
 
 mod answer;
 mod asking;
+mod judging;
+mod loan;
 mod making;
 mod opening;
 mod reacting;

@@ -18,11 +18,7 @@ pub fn make<E: Element, D: Digest>(
     ensures answer { Makes (length elements.now) (length digests.old) last result }
     ensures after { digests.new ≡ build_after E.Element.model (D.Digest.function digest.now) elements.now digests.old }
 {
-    let Some(round) = Round::new(elements.len(), last) else {
-        return Err(Refusal::Size);
-    };
-    let Ok(()) = build(digest, elements, digests) else {
-        return Err(Refusal::Size);
-    };
+    let round = Round::new(elements.len(), last).ok_or(Refusal::Size)?;
+    build(digest, elements, digests)?;
     Ok(round)
 }

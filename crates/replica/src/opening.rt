@@ -6,12 +6,12 @@ ghost use Rattle.replica.specs.Rounds.{state_of};
 
 use crate::asking::ask;
 use crate::round::Round;
-use crate::tables::tables_fit;
 use channel::Channel;
 use digest::Digest;
 use element::{Element, Refusal};
 
 // Takes the next round number and asks about range 1.
+#[tactic(auto, using(tree::proofs::Sizing::sized_low))]
 pub fn open<E: Element, D: Digest, O: Channel>(
     digest: &D,
     round: &mut Round,
@@ -23,9 +23,7 @@ pub fn open<E: Element, D: Digest, O: Channel>(
     ensures after { replica_of round.new elements.now digests.now ≡ open_after E.Element.model (D.Digest.function digest.now) (replica_of round.old elements.now digests.now) }
     ensures link { Puts E.Element.model (D.Digest.function digest.now) (replica_of round.new elements.now digests.now) result O.Channel.link (current E.Element.model (D.Digest.function digest.now) (replica_of round.new elements.now digests.now) (state_of round.new)) out.old out.new }
 {
-    if !tables_fit(round, elements, digests) {
-        return Err(Refusal::Size);
-    }
+    round.check_tables(elements, digests)?;
     if round.running {
         return Err(Refusal::Busy);
     }
@@ -38,6 +36,7 @@ pub fn open<E: Element, D: Digest, O: Channel>(
 }
 
 // Puts the question of the running range as it stands now.
+#[tactic(auto, using(crate::proofs::Walks::range_high))]
 pub fn resend<E: Element, D: Digest, O: Channel>(
     digest: &D,
     round: &Round,
@@ -48,12 +47,8 @@ pub fn resend<E: Element, D: Digest, O: Channel>(
     ensures answer { result ≡ running_answer E.Element.model (D.Digest.function digest.now) (replica_of round.now elements.now digests.now) }
     ensures link { Puts E.Element.model (D.Digest.function digest.now) (replica_of round.now elements.now digests.now) result O.Channel.link (current E.Element.model (D.Digest.function digest.now) (replica_of round.now elements.now digests.now) (state_of round.now)) out.old out.new }
 {
-    if !tables_fit(round, elements, digests) {
-        return Err(Refusal::Size);
-    }
-    if !round.running {
-        return Err(Refusal::Idle);
-    }
+    round.check_tables(elements, digests)?;
+    round.check_running()?;
     ask(digest, round, elements, digests, round.range, out);
     Ok(())
 }
@@ -68,12 +63,8 @@ pub fn abandon<E: Element, D: Digest>(
     ensures answer { result ≡ running_answer E.Element.model (D.Digest.function digest.now) (replica_of round.old elements.now digests.now) }
     ensures after { replica_of round.new elements.now digests.now ≡ abandon_after E.Element.model (D.Digest.function digest.now) (replica_of round.old elements.now digests.now) }
 {
-    if !tables_fit(round, elements, digests) {
-        return Err(Refusal::Size);
-    }
-    if !round.running {
-        return Err(Refusal::Idle);
-    }
+    round.check_tables(elements, digests)?;
+    round.check_running()?;
     round.end();
     Ok(())
 }

@@ -3,7 +3,7 @@ ghost use Rattle.std.specs.Prelude.{◌≡◌, ◌+◌, ◌*◌, ◌<◌, true, 
 ghost use Rattle.tree.specs.Sizes.{sized};
 ghost use Rattle.tree.specs.Walk.{follow};
 ghost use Rattle.replica.specs.declared.answer.Answer.TheVariants.{Moved};
-ghost use Rattle.replica.specs.Rounds.{idle, running, state_of, moved_to, going};
+ghost use Rattle.replica.specs.Rounds.{idle, running, state_of, progress_of, in_state, begun, moved_to, going};
 
 use crate::answer::Answer;
 use crate::round::Round;
@@ -27,11 +27,10 @@ impl Round {
     }
 
     // Takes the next round number and starts at range 1.
+    #[tactic(auto, using(crate::proofs::Walks::walk_starts))]
     pub(crate) fn begin(&mut self)
         requires { self.old.last < 4294967295 }
-        ensures size { self.new.size ≡ self.old.size }
-        ensures last { self.new.last ≡ self.old.last + 1 }
-        ensures state { state_of self.new ≡ running 1 0 }
+        ensures { progress_of self.new ≡ begun (progress_of self.old) }
     {
         self.last += 1;
         self.running = true;
@@ -41,20 +40,17 @@ impl Round {
 
     // Ends the round. Its number stays used.
     pub(crate) fn end(&mut self)
-        ensures size { self.new.size ≡ self.old.size }
-        ensures last { self.new.last ≡ self.old.last }
-        ensures state { state_of self.new ≡ idle }
+        ensures { progress_of self.new ≡ in_state (progress_of self.old) idle }
     {
         self.running = false;
     }
 
     // An answer settled the range: goes on to the range that follows, or ends the round.
+    #[tactic(auto, using(crate::proofs::Walks::count_high, crate::proofs::Walks::walk_settles, tree::proofs::Sizing::sized_high))]
     pub(crate) fn settle(&mut self) -> Answer
         requires { self.old.running ≡ true }
         ensures answer { result ≡ going self.old.count (follow self.old.range) }
-        ensures size { self.new.size ≡ self.old.size }
-        ensures last { self.new.last ≡ self.old.last }
-        ensures state { state_of self.new ≡ moved_to self.old.count (follow self.old.range) }
+        ensures progress { progress_of self.new ≡ in_state (progress_of self.old) (moved_to self.old.count (follow self.old.range)) }
     {
         let count = self.count + 1;
         let Some(range) = next_range(self.range) else {
@@ -67,12 +63,11 @@ impl Round {
     }
 
     // An answer said that the range differs: goes on to its lower half.
+    #[tactic(auto, using(crate::proofs::Walks::count_high, crate::proofs::Walks::walk_splits, tree::proofs::Sizing::sized_high))]
     pub(crate) fn split(&mut self) -> Answer
         requires { (self.old.running ≡ true) × (self.old.range < self.old.size) }
         ensures answer { result ≡ Moved (2 * self.old.range) }
-        ensures size { self.new.size ≡ self.old.size }
-        ensures last { self.new.last ≡ self.old.last }
-        ensures state { state_of self.new ≡ running (2 * self.old.range) (self.old.count + 1) }
+        ensures progress { progress_of self.new ≡ in_state (progress_of self.old) (running (2 * self.old.range) (self.old.count + 1)) }
     {
         let count = self.count + 1;
         let range = 2 * self.range;

@@ -1,103 +1,70 @@
 // The call that takes a frame and handles it.
-ghost use Rattle.std.specs.Prelude.{◌≡◌, true, if◌then◌else◌, Ok, Err};
-ghost use Rattle.element.specs.declared.refusal.Refusal.TheVariants.{Stale};
+ghost use Rattle.std.specs.Prelude.{◌≡◌, true};
 ghost use Rattle.frame.specs.Decoding.{decoded};
 ghost use Rattle.frame.specs.Frames.{Lawful};
 ghost use Rattle.frame.specs.Views.{viewed};
-ghost use Rattle.replica.specs.Replicas.{fitting, replica_of};
-ghost use Rattle.replica.specs.Rounds.{progress_of};
-ghost use Rattle.replica.specs.Steps.{awaits, Reacts, Judged, Steps};
+ghost use Rattle.replica.specs.Loans.{lent, Keeps};
+ghost use Rattle.replica.specs.Replicas.{replica_of};
+ghost use Rattle.replica.specs.Steps.{Reacts, Judged, Steps};
 
 use crate::answer::Answer;
-use crate::reacting::{answer_compare, descend, proceed, take_held, take_offer};
+use crate::loan::Loan;
+use crate::reacting::answer_compare;
 use crate::round::Round;
-use crate::tables::tables_fit;
 use channel::Channel;
 use digest::Digest;
 use element::{Element, Refusal};
 use frame::{Message, decode};
 
-// Declines an answer of another round or range than the running ones.
-fn expect(round: &Round, number: u32, range: u16) -> Result<(), Refusal>
-    ensures { result ≡ (if awaits (progress_of round.now) number range then Ok tt else Err Stale) }
-{
-    if round.running && round.last == number && round.range == range {
-        Ok(())
-    } else {
-        Err(Refusal::Stale)
-    }
-}
-
-// Does what a lawful message asks.
-fn react<E: Element, D: Digest, O: Channel>(
-    digest: &D,
-    round: &mut Round,
-    elements: &mut [E],
-    digests: &mut [u64],
-    message: Message<'_>,
-    out: &mut O,
-) -> Result<Answer, Refusal>
-    requires { (fitting (replica_of round.old elements.old digests.old) ≡ true) × (Lawful E.Element.model round.old.size (viewed message)) }
-    ensures { Reacts E.Element.model (D.Digest.function digest.now) O.Channel.link (viewed message.entry) (replica_of round.old elements.old digests.old) (replica_of round.new elements.new digests.new) out.old out.new result }
-{
-    match message {
-        Message::Compare {
-            round: r,
-            range,
-            digest: sent,
-        } => {
-            answer_compare(r, range, sent, digests[usize::from(range)], out);
-            Ok(Answer::Answered)
-        }
-        Message::Same { round: r, range } => {
-            expect(round, r, range)?;
-            Ok(proceed(digest, round, elements, digests, out))
-        }
-        Message::Differ { round: r, range } => {
-            expect(round, r, range)?;
-            Ok(descend(digest, round, elements, digests, out))
-        }
-        Message::Offer {
-            round: r,
-            range,
-            part,
-        } => {
-            let Some(x) = E::read(part) else {
-                unreachable()
-            };
-            take_offer(digest, round, elements, digests, r, range, x, out);
-            Ok(Answer::Answered)
-        }
-        Message::Held {
-            round: number,
-            range,
-            part,
-        } => {
-            expect(round, number, range)?;
-            let Some(x) = E::read(part) else {
-                unreachable()
-            };
-            Ok(take_held(digest, round, elements, digests, x, out))
+impl<E: Element, D: Digest> Loan<'_, '_, '_, '_, E, D> {
+    // Does what a lawful message asks.
+    fn react<O: Channel>(&mut self, message: Message<'_>, out: &mut O) -> Result<Answer, Refusal>
+        requires { Lawful E.Element.model self.old.round.now.size (viewed message) }
+        ensures keeps { Keeps self.old self.new }
+        ensures does { Reacts E.Element.model (D.Digest.function self.old.digest.now) O.Channel.link (viewed message.entry) (lent self.old) (lent self.new) out.old out.new result }
+    {
+        match message {
+            Message::Compare {
+                round,
+                range,
+                digest,
+            } => {
+                answer_compare(round, range, digest, self.digests[usize::from(range)], out);
+                Ok(Answer::Answered)
+            }
+            Message::Same { round, range } => {
+                self.round.check_awaited(round, range)?;
+                Ok(self.proceed(out))
+            }
+            Message::Differ { round, range } => {
+                self.round.check_awaited(round, range)?;
+                Ok(self.descend(out))
+            }
+            Message::Offer { round, range, part } => {
+                let x = E::read(part).unwrap();
+                self.take_offer(round, range, x, out);
+                Ok(Answer::Answered)
+            }
+            Message::Held {
+                round: number,
+                range,
+                part,
+            } => {
+                self.round.check_awaited(number, range)?;
+                let x = E::read(part).unwrap();
+                Ok(self.take_held(x, out))
+            }
         }
     }
-}
 
-// Reads a frame, and does what it asks.
-fn handle<E: Element, D: Digest, O: Channel>(
-    digest: &D,
-    round: &mut Round,
-    elements: &mut [E],
-    digests: &mut [u64],
-    frame: &[u8],
-    out: &mut O,
-) -> Result<Answer, Refusal>
-    requires { fitting (replica_of round.old elements.old digests.old) ≡ true }
-    ensures { Judged E.Element.model (D.Digest.function digest.now) O.Channel.link (decoded E.Element.model round.old.size frame.now) (replica_of round.old elements.old digests.old) (replica_of round.new elements.new digests.new) out.old out.new result }
-{
-    let Ok(message) = decode::<E>(usize::from(round.size), frame) else {
-        return Err(Refusal::Frame);
-    };
-    react(digest, round, elements, digests, message, out)
+    // Reads a frame, and does what it asks.
+    fn handle<O: Channel>(&mut self, frame: &[u8], out: &mut O) -> Result<Answer, Refusal>
+        ensures keeps { Keeps self.old self.new }
+        ensures does { Judged E.Element.model (D.Digest.function self.old.digest.now) O.Channel.link (decoded E.Element.model self.old.round.now.size frame.now) (lent self.old) (lent self.new) out.old out.new result }
+    {
+        let message = decode::<E>(usize::from(self.round.size), frame)?;
+        self.react(message, out)
+    }
 }
 
 // Takes what comes from the incoming channel and handles it.
@@ -111,11 +78,15 @@ pub fn step<E: Element, D: Digest, I: Channel, O: Channel>(
 ) -> Result<Answer, Refusal>
     ensures { Steps E.Element.model (D.Digest.function digest.now) O.Channel.link I.Channel.link (replica_of round.old elements.old digests.old) (replica_of round.new elements.new digests.new) from.old from.new out.old out.new result }
 {
-    if !tables_fit(round, elements, digests) {
-        return Err(Refusal::Size);
-    }
+    round.check_tables(elements, digests)?;
     let Some(packet) = from.take() else {
         return Ok(Answer::Nothing);
     };
-    handle(digest, round, elements, digests, packet.as_bytes(), out)
+    let mut loan = Loan {
+        digest,
+        round,
+        elements,
+        digests,
+    };
+    loan.handle(packet.as_bytes(), out)
 }

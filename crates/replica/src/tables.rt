@@ -4,20 +4,12 @@ ghost use Rattle.element.specs.Tables.{held_at, joined_at};
 ghost use Rattle.tree.specs.Renewal.{renewed};
 ghost use Rattle.tree.specs.Sizes.{fit};
 ghost use Rattle.replica.specs.Calls.{lay_answer, lay_after, show_answer};
-ghost use Rattle.replica.specs.Replicas.{fitting, replica_of};
+ghost use Rattle.replica.specs.Replicas.{replica_of};
 
 use crate::round::Round;
 use digest::Digest;
 use element::{Element, Refusal, join_at};
 use tree::renew;
-
-// Whether tables of these lengths are those of the record.
-pub(crate) fn tables_fit<E: Element>(round: &Round, elements: &[E], digests: &[u64]) -> bool
-    ensures { result ≡ fitting (replica_of round.now elements.now digests.now) }
-{
-    let size = usize::from(round.size);
-    elements.len() == size && digests.len() == 2 * size
-}
 
 // Joins `x` into a key and renews the digests; answers what the key then holds.
 pub(crate) fn absorb<E: Element, D: Digest>(
@@ -32,11 +24,8 @@ pub(crate) fn absorb<E: Element, D: Digest>(
     ensures elements { elements.new ≡ joined_at E.Element.model elements.old key x }
     ensures digests { digests.new ≡ renewed E.Element.model (D.Digest.function digest.now) (joined_at E.Element.model elements.old key x) key digests.old }
 {
-    let held = match join_at(elements, key, x) {
-        Ok(held) => held,
-        Err(_) => x,
-    };
-    let _ = renew(digest, elements, digests, key);
+    let held = join_at(elements, key, x).unwrap();
+    renew(digest, elements, digests, key).unwrap();
     held
 }
 
@@ -52,12 +41,8 @@ pub fn lay<E: Element, D: Digest>(
     ensures answer { result ≡ lay_answer E.Element.model (D.Digest.function digest.now) (replica_of round.now elements.old digests.old) key }
     ensures after { replica_of round.now elements.new digests.new ≡ lay_after E.Element.model (D.Digest.function digest.now) (replica_of round.now elements.old digests.old) key x }
 {
-    if !tables_fit(round, elements, digests) {
-        return Err(Refusal::Size);
-    }
-    if key >= usize::from(round.size) {
-        return Err(Refusal::Key);
-    }
+    round.check_tables(elements, digests)?;
+    round.check_key(key)?;
     absorb(digest, elements, digests, key, x);
     Ok(())
 }
@@ -72,11 +57,7 @@ pub fn show<E: Element, D: Digest>(
 ) -> Result<E, Refusal>
     ensures { result ≡ show_answer E.Element.model (D.Digest.function digest.now) (replica_of round.now elements.now digests.now) key }
 {
-    if !tables_fit(round, elements, digests) {
-        return Err(Refusal::Size);
-    }
-    if key >= usize::from(round.size) {
-        return Err(Refusal::Key);
-    }
+    round.check_tables(elements, digests)?;
+    round.check_key(key)?;
     Ok(elements[key].meaning())
 }

@@ -27,11 +27,7 @@ mod tests {
         }
     }
 
-    fn set(added: u64, removed: u64) -> SetRecord {
-        SetRecord { added, removed }
-    }
-
-    // The frame of this kind that brings a register.
+    // The frame of this kind that brings a register. The kind is a byte, since one that is no kind is tried, too.
     fn frame(kind: u8, round: u8, range: u8, x: Register) -> [u8; 21] {
         let mut bytes = [0; 21];
         bytes[0] = kind;
@@ -41,23 +37,20 @@ mod tests {
         bytes
     }
 
-    // Whether `frame` comes from the channel.
+    // Whether `frame` comes from the channel. The tests of channels have this line too: a crate for it would be no plainer.
     fn comes(channel: &mut InOrder, frame: &[u8]) -> bool {
-        match channel.take() {
-            Some(packet) => packet.as_bytes() == frame,
-            None => false,
-        }
+        channel
+            .take()
+            .is_some_and(|packet| packet.as_bytes() == frame)
     }
 
-    // The number of the refusal, or 0 where the call was accepted.
-    fn number<T: Drop>(answer: Result<T, Refusal>) -> u8 {
-        match answer {
-            Ok(_) => 0,
-            Err(refusal) => refusal.number(),
-        }
+    // The number with which the call was refused, or none where it was accepted. The numbers are what these tests check.
+    fn refused<T: Drop>(answer: Result<T, Refusal>) -> Option<u8> {
+        answer.err().map(Refusal::number)
     }
 
-    // One replica of two registers, with the channels from and to another that the test plays.
+    // One replica of two registers, with the channels from and to another that the test plays. As the owner in `peers`, but
+    // open: a test puts in a record that the tables do not fit.
     #[derive(Drop)]
     struct Lone {
         round: Round,
@@ -160,8 +153,14 @@ mod tests {
     #[test]
     fn a_replica_has_a_power_of_two_keys(rt: HostRuntime) {
         let mut digests = [7; 4];
-        assert_eq!(rt; number(make(&Fnv, &[entry(1); 3], &mut digests, 0)), 1);
-        assert_eq!(rt; number(make(&Fnv, &[entry(1); 4], &mut digests, 0)), 1);
+        assert_eq!(rt;
+            refused(make(&Fnv, &[entry(1); 3], &mut digests, 0)),
+            Some(1)
+        );
+        assert_eq!(rt;
+            refused(make(&Fnv, &[entry(1); 4], &mut digests, 0)),
+            Some(1)
+        );
         assert!(rt; digests == [7; 4]);
     }
 
@@ -171,12 +170,12 @@ mod tests {
         let mut lone = Lone::new(1, 0)?;
         let before = lone.digests;
         lone.round = make(&Fnv, &[entry(1); 4], &mut [0; 8], 0)?;
-        assert_eq!(rt; number(lone.lay(9, entry(5))), 1);
-        assert_eq!(rt; number(lone.show(9)), 1);
-        assert_eq!(rt; number(lone.open()), 1);
-        assert_eq!(rt; number(lone.resend()), 1);
-        assert_eq!(rt; number(lone.abandon()), 1);
-        assert_eq!(rt; number(lone.hears(&DIFFER)), 1);
+        assert_eq!(rt; refused(lone.lay(9, entry(5))), Some(1));
+        assert_eq!(rt; refused(lone.show(9)), Some(1));
+        assert_eq!(rt; refused(lone.open()), Some(1));
+        assert_eq!(rt; refused(lone.resend()), Some(1));
+        assert_eq!(rt; refused(lone.abandon()), Some(1));
+        assert_eq!(rt; refused(lone.hears(&DIFFER)), Some(1));
         assert!(rt; lone.is_still(1, &before));
         assert!(rt; comes(&mut lone.from, &DIFFER) && lone.out.take().is_none());
         Ok(())
@@ -186,8 +185,8 @@ mod tests {
     fn a_key_that_is_not_there_is_declined(rt: HostRuntime) -> Result<(), Fail> {
         let mut lone = Lone::new(1, 0)?;
         let before = lone.digests;
-        assert_eq!(rt; number(lone.show(2)), 2);
-        assert_eq!(rt; number(lone.lay(2, entry(5))), 2);
+        assert_eq!(rt; refused(lone.show(2)), Some(2));
+        assert_eq!(rt; refused(lone.lay(2, entry(5))), Some(2));
         assert!(rt; lone.is_still(1, &before));
         lone.lay(1, entry(5))?;
         assert!(rt; lone.elements[1].stamp == 5 && lone.digests != before);
@@ -197,14 +196,14 @@ mod tests {
     #[test]
     fn one_round_runs_at_a_time(rt: HostRuntime) -> Result<(), Fail> {
         let mut lone = Lone::new(1, 0)?;
-        assert_eq!(rt; number(lone.resend()), 4);
-        assert_eq!(rt; number(lone.abandon()), 4);
+        assert_eq!(rt; refused(lone.resend()), Some(4));
+        assert_eq!(rt; refused(lone.abandon()), Some(4));
         assert!(rt; lone.out.take().is_none());
-        assert_eq!(rt; number(lone.open()), 0);
-        assert_eq!(rt; number(lone.open()), 3);
+        assert_eq!(rt; refused(lone.open()), None);
+        assert_eq!(rt; refused(lone.open()), Some(3));
         assert!(rt; lone.out.take().is_some() && lone.out.take().is_none());
-        assert_eq!(rt; number(lone.abandon()), 0);
-        assert_eq!(rt; number(lone.abandon()), 4);
+        assert_eq!(rt; refused(lone.abandon()), None);
+        assert_eq!(rt; refused(lone.abandon()), Some(4));
         Ok(())
     }
 
@@ -212,10 +211,10 @@ mod tests {
     #[test]
     fn the_last_round_number_is_used_once(rt: HostRuntime) -> Result<(), Fail> {
         let mut lone = Lone::new(1, 4294967294)?;
-        assert_eq!(rt; number(lone.open()), 0);
-        assert_eq!(rt; number(lone.open()), 3);
-        assert_eq!(rt; number(lone.abandon()), 0);
-        assert_eq!(rt; number(lone.open()), 5);
+        assert_eq!(rt; refused(lone.open()), None);
+        assert_eq!(rt; refused(lone.open()), Some(3));
+        assert_eq!(rt; refused(lone.abandon()), None);
+        assert_eq!(rt; refused(lone.open()), Some(5));
         assert!(rt; lone.out.take().is_some() && lone.out.take().is_none());
         Ok(())
     }
@@ -225,14 +224,14 @@ mod tests {
     fn unlawful_frames_change_nothing(rt: HostRuntime) -> Result<(), Fail> {
         let mut lone = Lone::new(1, 0)?;
         let before = lone.digests;
-        assert_eq!(rt; number(lone.hears(&frame(6, 1, 2, entry(5)))), 6);
-        assert_eq!(rt; number(lone.hears(&frame(OFFER, 0, 2, entry(5)))), 6);
-        assert_eq!(rt; number(lone.hears(&frame(OFFER, 1, 1, entry(5)))), 6);
+        assert_eq!(rt; refused(lone.hears(&frame(6, 1, 2, entry(5)))), Some(6));
+        assert_eq!(rt; refused(lone.hears(&frame(OFFER, 0, 2, entry(5)))), Some(6));
+        assert_eq!(rt; refused(lone.hears(&frame(OFFER, 1, 1, entry(5)))), Some(6));
         let mut of_a_set = [0; 23];
         of_a_set[0] = OFFER;
         of_a_set[4] = 1;
         of_a_set[6] = 2;
-        assert_eq!(rt; number(lone.hears(&of_a_set)), 6);
+        assert_eq!(rt; refused(lone.hears(&of_a_set)), Some(6));
         assert!(rt; lone.is_still(1, &before));
         assert!(rt; lone.from.take().is_none() && lone.out.take().is_none());
         Ok(())
@@ -260,13 +259,13 @@ mod tests {
     fn a_stale_held_is_not_joined(rt: HostRuntime) -> Result<(), Fail> {
         let mut lone = Lone::new(1, 0)?;
         let before = lone.digests;
-        assert_eq!(rt; number(lone.hears(&frame(HELD, 1, 2, entry(5)))), 7);
+        assert_eq!(rt; refused(lone.hears(&frame(HELD, 1, 2, entry(5)))), Some(7));
         lone.open()?;
         assert_eq!(rt; lone.hears(&DIFFER), Ok(Answer::Moved(2)));
         assert!(rt; lone.out.take().is_some() && lone.out.take().is_some());
-        assert_eq!(rt; number(lone.hears(&frame(HELD, 2, 2, entry(5)))), 7);
-        assert_eq!(rt; number(lone.hears(&frame(HELD, 1, 3, entry(5)))), 7);
-        assert_eq!(rt; number(lone.hears(&DIFFER)), 7);
+        assert_eq!(rt; refused(lone.hears(&frame(HELD, 2, 2, entry(5)))), Some(7));
+        assert_eq!(rt; refused(lone.hears(&frame(HELD, 1, 3, entry(5)))), Some(7));
+        assert_eq!(rt; refused(lone.hears(&DIFFER)), Some(7));
         assert!(rt; lone.is_still(1, &before) && lone.out.take().is_none());
         assert_eq!(rt;
             lone.hears(&frame(HELD, 1, 2, entry(5))),
@@ -378,12 +377,21 @@ mod tests {
     #[test]
     fn a_record_that_breaks_its_rule_is_an_empty_set(rt: HostRuntime) -> Result<(), Fail> {
         let heap = rt.alloc();
-        let left = vec![in heap; set(1, 2), set(0, 0)]?;
-        let mut pair = pair(heap, left, vec![in heap; set(0, 0), set(0, 0)]?)?;
+        let broken = SetRecord {
+            added: 1,
+            removed: 2,
+        };
+        let left = vec![in heap; broken, SetRecord::bottom()]?;
+        let right = vec![in heap; SetRecord::bottom(), SetRecord::bottom()]?;
+        let mut pair = pair(heap, left, right)?;
         pair.open(End::Left)?;
         assert_eq!(rt; pair.step(End::Right), Ok(Answer::Answered));
         assert_eq!(rt; pair.step(End::Left), Ok(Answer::Complete(1)));
-        pair.lay(End::Right, 0, set(12, 4))?;
+        let laid = SetRecord {
+            added: 12,
+            removed: 4,
+        };
+        pair.lay(End::Right, 0, laid)?;
         pair.open(End::Left)?;
         for answer in [Answer::Moved(2), Answer::Moved(3), Answer::Complete(3)] {
             assert_eq!(rt; pair.step(End::Right), Ok(Answer::Answered));
