@@ -1,25 +1,23 @@
 -- A lawful frame reads back as written, and what reads as a frame is that frame, written, and lawful.
-use Rattle.std.proofs.Common.{◌≡◌, ℕ, zero, suc, ◌*◌, ◌^◌, ◌<◌, ◌≤◌, true, ◌&&◌, ltb, leb, List, [], ◌∷◌, ◌++◌, length, take, drop, is_some, Some, None, Option, sym, refl, ap, ◌∙◌, subst, arith, length-drop, take-append-drop, length-take}
-use Rattle.std.proofs.lemmas.List.{append_assoc, drop_all, drop-drop}
-use Rattle.std.proofs.lemmas.Bool.{both_ways, le-leb, lt-ltb, eq-eqb, leb-true, ltb-true, eqb-true, and_from, and_parts}
+use Rattle.std.proofs.Common.{◌≡◌, ℕ, zero, suc, ◌+◌, ◌*◌, ◌^◌, ◌<◌, ◌≤◌, true, ◌&&◌, ltb, leb, List, [], ◌∷◌, ◌++◌, length, take, drop, is_some, Some, None, Option, sym, refl, ap, ◌∙◌, subst, arith, length-drop, take-append-drop, slice_index}
+use Rattle.std.proofs.lemmas.Bool.{le-leb, lt-ltb, eq-eqb, leb-true, ltb-true, eqb-true, and_from, and_parts, cond-true}
+use Rattle.std.proofs.lemmas.List.{append_assoc, drop-drop, nil_from_length, length-take-le}
+use Rattle.std.proofs.lemmas.Bool.Decides.{nat_tests}
+use Rattle.std.proofs.lemmas.Option.{cond_some}
 use Rattle.element.specs.Bytes.{ByteString, be, number}
 use Rattle.element.specs.Model.{Model, Laws}
 use Rattle.element.specs.Numbers.{number_be, be_spelt, spelt_below, bytes_take, bytes_drop}
 use Rattle.frame.specs.Frames.{Frame, compare, same, differ, offer, held, header, written, Numbered, Inner, Single, Spells, Lawful}
-use Rattle.frame.specs.Decoding.{good_kind, good_length, round_of, good_range, good_element, framed, decoded, Reads}
-use Rattle.frame.proofs.Judging.{Passes, taken, was_taken}
+use Rattle.frame.specs.Decoding.{is_kind, round_of, range_of, kind_length, range_suits, element_suits, good_kind, good_length, good_round, good_range, good_element, frame_of, framed, decoded, Reads}
 
--- The fields of written frames pass: s is the field as it reads back.
-round_passes : (r s : ℕ) → s ≡ r → Numbered r → leb 1 s ≡ true
-round_passes r s e h = le-leb 1 s (omega (arith, h.low))
+-- A range passes where it is lawful,
+inner_passes : (N n : ℕ) → Inner N n → (leb 1 n && ltb n N) ≡ true
+inner_passes N n h = and_from _ _ (le-leb 1 n h.low) (lt-ltb n N h.high)
 
-inner_passes : (N n s : ℕ) → s ≡ n → Inner N n → (leb 1 s && ltb s N) ≡ true
-inner_passes N n s e h = and_from _ _ (le-leb 1 s (omega (arith, h.low))) (lt-ltb s N (omega (arith, h.high)))
+single_passes : (N n : ℕ) → Single N n → (leb N n && ltb n (2 * N)) ≡ true
+single_passes N n h = and_from _ _ (le-leb N n h.low) (lt-ltb n (2 * N) h.high)
 
-single_passes : (N n s : ℕ) → s ≡ n → Single N n → (leb N s && ltb s (2 * N)) ≡ true
-single_passes N n s e h = and_from _ _ (le-leb N s (omega (arith, h.low))) (lt-ltb s (2 * N) (omega (arith, h.high)))
-
--- and what passes is lawful
+-- and is lawful where it passes.
 inner_lawful : (N n : ℕ) → (leb 1 n && ltb n N) ≡ true → Inner N n
 inner_lawful N n h = let p = and_parts (leb 1 n) (ltb n N) h in record { low = leb-true 1 n p.0; high = ltb-true n N p.1 }
 
@@ -28,7 +26,7 @@ single_lawful N n h = let p = and_parts (leb N n) (ltb n (2 * N)) h in record { 
 
 some_of : {A : Type 0} (o : Option A) → is_some o ≡ true → (x : A) × (o ≡ Some x)
 some_of (Some x) h = (x, refl)
-some_of None h = absurd (both_ways _ refl h)
+some_of None h = cc
 
 -- what holds of each kind
 of_kind : (P : ℕ → Type 0) → P 1 → P 2 → P 3 → P 4 → P 5 → (k : ℕ) → 1 ≤ k → k ≤ 5 → P k
@@ -40,130 +38,88 @@ of_kind P a b c d e (suc (suc (suc (suc zero)))) l h = d
 of_kind P a b c d e (suc (suc (suc (suc (suc zero))))) l h = e
 of_kind P a b c d e (suc (suc (suc (suc (suc (suc k)))))) l h = absurd (omega arith)
 
--- The bytes after the kind, at least six: the header's fields, and what follows.
-module _ (rest : List ℕ) (long : 6 ≤ length rest) (o : ByteString rest) where
-  four : length (take 4 rest) ≡ 4
-  four = length-take 4 rest ∙ omega arith
+-- a frame of any kind has a header
+kind_long : (w k : ℕ) → 7 ≤ kind_length w k
+kind_long w k = grind (arith, nat_tests)
 
-  two : length (take 2 (drop 4 rest)) ≡ 2
-  two = length-take 2 (drop 4 rest) ∙ omega (arith, length-drop 4 rest)
+round_below : (bs : List ℕ) → ByteString bs → 7 ≤ length bs → round_of bs < 2 ^ 32
+round_below bs o l = spelt_below 4 (take 4 (drop 1 bs)) (length-take-le 4 (drop 1 bs) (omega (arith, length-drop 1 bs))) (bytes_take 4 (drop 1 bs) (bytes_drop 1 bs o))
 
-  -- the header of the fields, and what follows, are the bytes
-  whole : (k : ℕ) → header k (number (take 4 rest)) (number (take 2 (drop 4 rest))) ++ drop 6 rest ≡ k ∷ rest
-  whole k =
-      let p = be_spelt 4 (take 4 rest) four (bytes_take 4 rest o) in
-      let q = be_spelt 2 (take 2 (drop 4 rest)) two (bytes_take 2 (drop 4 rest) (bytes_drop 4 rest o)) in
-      let s = append_assoc (take 4 rest) (take 2 (drop 4 rest)) (drop 6 rest) in
-      let t = ap (λ (xs : List ℕ). take 2 (drop 4 rest) ++ xs) (sym (drop-drop 2 4 rest)) ∙ take-append-drop 2 (drop 4 rest) in
-      (λ i. k ∷ ((p i ++ q i) ++ drop 6 rest))
-      ∙ ap (λ (xs : List ℕ). k ∷ xs) (s ∙ ap (λ (xs : List ℕ). take 4 rest ++ xs) t ∙ take-append-drop 4 rest)
-
-  round_lawful : leb 1 (number (take 4 rest)) ≡ true → Numbered (number (take 4 rest))
-  round_lawful h = record { low = leb-true 1 _ h; high = spelt_below 4 (take 4 rest) four (bytes_take 4 rest o) }
+-- The header of a frame's fields, and what follows it, are the frame.
+whole : (bs : List ℕ) → ByteString bs → 7 ≤ length bs → header (slice_index bs 0) (round_of bs) (range_of bs) ++ drop 7 bs ≡ bs
+whole [] o l = absurd (omega arith)
+whole (k ∷ rest) o l =
+    let four : length (take 4 rest) ≡ 4 = length-take-le 4 rest (omega arith) in
+    let two : length (take 2 (drop 4 rest)) ≡ 2 = length-take-le 2 (drop 4 rest) (omega (arith, length-drop 4 rest)) in
+    let p = be_spelt 4 (take 4 rest) four (bytes_take 4 rest o.1) in
+    let q = be_spelt 2 (take 2 (drop 4 rest)) two (bytes_take 2 (drop 4 rest) (bytes_drop 4 rest o.1)) in
+    let s = append_assoc (take 4 rest) (take 2 (drop 4 rest)) (drop 6 rest) in
+    let t = ap (λ (xs : List ℕ). take 2 (drop 4 rest) ++ xs) (sym (drop-drop 2 4 rest)) ∙ take-append-drop 2 (drop 4 rest) in
+    (λ i. k ∷ ((p i ++ q i) ++ drop 6 rest))
+    ∙ ap (λ (xs : List ℕ). k ∷ xs) (s ∙ ap (λ (xs : List ℕ). take 4 rest ++ xs) t ∙ take-append-drop 4 rest)
 
 module _ {R : Type 0} {m : Model R} (laws : Laws m) (N : ℕ) (few : N ≤ 4096) where
-  module _ (r n : ℕ) (numbered : Numbered r) where
-    round_back : number (be 4 r) ≡ r
-    round_back = number_be 4 r numbered.high
+  -- A header with lawful fields, and what may follow it, read as the frame of these.
+  module _ (k r n : ℕ) (kind : is_kind k ≡ true) (numbered : Numbered r) (range : range_suits N k n ≡ true) (small : n < 2 * N) where
+    reads_as : (rest : List ℕ) → 7 + length rest ≡ kind_length m.width k → element_suits m k rest ≡ true → decoded m N (header k r n ++ rest) ≡ Some (frame_of k r n rest)
+    reads_as rest long element =
+        let a : number (be 4 r) ≡ r = number_be 4 r numbered.high in
+        let b : number (be 2 n) ≡ n = number_be 2 n (omega arith) in
+        let round : leb 1 (number (be 4 r)) ≡ true = le-leb 1 _ (omega (arith, numbered.low)) in
+        let long : good_length m N (header k r n ++ rest) ≡ true = eq-eqb _ _ (omega arith) in
+        cond-true _ _ None (and_from _ _ kind (and_from _ _ long (and_from _ _ round (and_from _ _ (ap (range_suits N k) b ∙ range) element))))
+        ∙ (λ i. Some (frame_of k (a i) (b i) rest))
 
-    -- a frame of this round whose other fields pass
-    read_as : (f : Frame) → good_kind m N (written f) ≡ true → good_length m N (written f) ≡ true → round_of (written f) ≡ r → good_range m N (written f) ≡ true → good_element m N (written f) ≡ true → framed (written f) ≡ f → decoded m N (written f) ≡ Some f
-    read_as f k l e q d is = taken m N (written f) (record { kind = k; long = l; round = round_passes r _ e numbered; range = q; element = d }) ∙ ap Some is
+  spelt : (bs : List ℕ) → Spells m bs → is_some (m.parsed bs) ≡ true
+  spelt bs h = ap (λ (xs : List ℕ). is_some (m.parsed xs)) (sym h.1) ∙ ap is_some (laws.read_back h.0)
 
-    module _ (inner : Inner N n) where
-      inner_back : number (be 2 n) ≡ n
-      inner_back = number_be 2 n (omega (arith, inner.high))
-
-      back_compare : (d : ℕ) → d < 2 ^ 64 → decoded m N (written (compare r n d)) ≡ Some (compare r n d)
-      back_compare d h =
-          let digest-back = number_be 8 d h in
-          read_as (compare r n d) refl refl round_back (inner_passes N n _ inner_back inner) refl (λ i. compare (round_back i) (inner_back i) (digest-back i))
-
-      back_same : decoded m N (written (same r n)) ≡ Some (same r n)
-      back_same = read_as (same r n) refl refl round_back (inner_passes N n _ inner_back inner) refl (λ i. same (round_back i) (inner_back i))
-
-      back_differ : decoded m N (written (differ r n)) ≡ Some (differ r n)
-      back_differ = read_as (differ r n) refl refl round_back (inner_passes N n _ inner_back inner) refl (λ i. differ (round_back i) (inner_back i))
-
-    module _ (single : Single N n) (bs : List ℕ) (spells : Spells m bs) where
-      single_back : number (be 2 n) ≡ n
-      single_back = number_be 2 n (omega (arith, single.high))
-
-      as_wide : length bs ≡ m.width
-      as_wide = ap length (sym spells.1) ∙ laws.written_long spells.0
-
-      spelt : is_some (m.parsed bs) ≡ true
-      spelt = ap (λ (xs : List ℕ). is_some (m.parsed xs)) (sym spells.1) ∙ ap is_some (laws.read_back spells.0)
-
-      back_offer : decoded m N (written (offer r n bs)) ≡ Some (offer r n bs)
-      back_offer = read_as (offer r n bs) refl (eq-eqb _ _ (omega (arith, as_wide))) round_back (single_passes N n _ single_back single) spelt (λ i. offer (round_back i) (single_back i) bs)
-
-      back_held : decoded m N (written (held r n bs)) ≡ Some (held r n bs)
-      back_held = read_as (held r n bs) refl (eq-eqb _ _ (omega (arith, as_wide))) round_back (single_passes N n _ single_back single) spelt (λ i. held (round_back i) (single_back i) bs)
+  wide : (bs : List ℕ) → Spells m bs → 7 + length bs ≡ 7 + m.width
+  wide bs h = omega (arith, ap length h.1, laws.written_long h.0)
 
   back : (f : Frame) → Lawful m N f → decoded m N (written f) ≡ Some f
-  back (compare r n d) h = back_compare r n h.0 h.1 d h.2
-  back (same r n) h = back_same r n h.0 h.1
-  back (differ r n) h = back_differ r n h.0 h.1
-  back (offer r n bs) h = back_offer r n h.0 h.1 bs h.2
-  back (held r n bs) h = back_held r n h.0 h.1 bs h.2
+  back (compare r n d) h =
+      reads_as 1 r n refl h.0 (inner_passes N n h.1) (omega (arith, h.1.high)) (be 8 d) refl refl
+      ∙ ap (λ (x : ℕ). Some (compare r n x)) (number_be 8 d h.2)
+  back (same r n) h = reads_as 2 r n refl h.0 (inner_passes N n h.1) (omega (arith, h.1.high)) [] refl refl
+  back (differ r n) h = reads_as 3 r n refl h.0 (inner_passes N n h.1) (omega (arith, h.1.high)) [] refl refl
+  back (offer r n bs) h = reads_as 4 r n refl h.0 (single_passes N n h.1) h.1.high bs (wide bs h.2) (spelt bs h.2)
+  back (held r n bs) h = reads_as 5 r n refl h.0 (single_passes N n h.1) h.1.high bs (wide bs h.2) (spelt bs h.2)
 
-  -- what passes is a lawful frame, and is that frame written
-  abbrev Right : List ℕ → Type 0
-  Right bs = Passes m N bs → Lawful m N (framed bs) × (written (framed bs) ≡ bs)
+  -- What a frame of these parts is, where they pass: lawful, and written as they are.
+  module _ (r n : ℕ) (rest : List ℕ) (numbered : Numbered r) (o : ByteString rest) where
+    abbrev Right : ℕ → Type 0
+    Right k = 7 + length rest ≡ kind_length m.width k → range_suits N k n ≡ true → element_suits m k rest ≡ true → Lawful m N (frame_of k r n rest) × (written (frame_of k r n rest) ≡ header k r n ++ rest)
 
-  module _ (rest : List ℕ) (o : ByteString rest) where
-    right_compare : Right (1 ∷ rest)
-    right_compare p =
-        let l : length rest ≡ 14 = omega (arith, eqb-true _ _ p.long) in
-        let t : length (drop 6 rest) ≡ 8 = length-drop 6 rest ∙ omega arith in
-        let six : 6 ≤ length rest = omega arith in
-        let b = bytes_drop 6 rest o in (
-          (round_lawful rest six o p.round, inner_lawful N _ p.range, spelt_below 8 (drop 6 rest) t b),
-          ap (λ (xs : List ℕ). header 1 (number (take 4 rest)) (number (take 2 (drop 4 rest))) ++ xs) (be_spelt 8 (drop 6 rest) t b) ∙ whole rest six o 1,
-        )
+    spells : is_some (m.parsed rest) ≡ true → Spells m rest
+    spells h = let s = some_of (m.parsed rest) h in (s.0, laws.write_back rest o s.0 s.1)
 
-    -- nothing follows the header
-    bare : (k : ℕ) → length rest ≡ 6 → header k (number (take 4 rest)) (number (take 2 (drop 4 rest))) ≡ k ∷ rest
-    bare k l =
-        ap (λ (xs : List ℕ). header k (number (take 4 rest)) (number (take 2 (drop 4 rest))) ++ xs) (sym (drop_all 6 rest (omega arith)))
-        ∙ whole rest (omega arith) o k
+    digest : 7 + length rest ≡ 15 → length rest ≡ 8
+    digest l = omega arith
 
-    right_same : Right (2 ∷ rest)
-    right_same p =
-        let l : length rest ≡ 6 = omega (arith, eqb-true _ _ p.long) in
-        ((round_lawful rest (omega arith) o p.round, inner_lawful N _ p.range), bare 2 l)
+    bare : 7 + length rest ≡ 7 → [] ≡ rest
+    bare l = sym (nil_from_length rest (omega arith))
 
-    right_differ : Right (3 ∷ rest)
-    right_differ p =
-        let l : length rest ≡ 6 = omega (arith, eqb-true _ _ p.long) in
-        ((round_lawful rest (omega arith) o p.round, inner_lawful N _ p.range), bare 3 l)
-
-    spells_of : is_some (m.parsed (drop 6 rest)) ≡ true → Spells m (drop 6 rest)
-    spells_of h =
-        let s = some_of (m.parsed (drop 6 rest)) h in
-        (s.0, laws.write_back (drop 6 rest) (bytes_drop 6 rest o) s.0 s.1)
-
-    right_offer : Right (4 ∷ rest)
-    right_offer p =
-        let l : 6 ≤ length rest = omega (arith, eqb-true _ _ p.long) in
-        ((round_lawful rest l o p.round, single_lawful N _ p.range, spells_of p.element), whole rest l o 4)
-
-    right_held : Right (5 ∷ rest)
-    right_held p =
-        let l : 6 ≤ length rest = omega (arith, eqb-true _ _ p.long) in
-        ((round_lawful rest l o p.round, single_lawful N _ p.range, spells_of p.element), whole rest l o 5)
-
-  right : (bs : List ℕ) → ByteString bs → Right bs
-  right [] o p = absurd (both_ways _ refl p.kind)
-  right (k ∷ rest) o p =
-      let b = and_parts (leb 1 k) (leb k 5) p.kind in
-      of_kind (λ (j : ℕ). Right (j ∷ rest)) (right_compare rest o.1) (right_same rest o.1) (right_differ rest o.1) (right_offer rest o.1) (right_held rest o.1) k (leb-true 1 k b.0) (leb-true k 5 b.1) p
+    right : (k : ℕ) → 1 ≤ k → k ≤ 5 → Right k
+    right = of_kind Right
+        (λ l q e. ((numbered, inner_lawful N n q, spelt_below 8 rest (digest l) o), ap (λ (xs : List ℕ). header 1 r n ++ xs) (be_spelt 8 rest (digest l) o)))
+        (λ l q e. ((numbered, inner_lawful N n q), ap (λ (xs : List ℕ). header 2 r n ++ xs) (bare l)))
+        (λ l q e. ((numbered, inner_lawful N n q), ap (λ (xs : List ℕ). header 3 r n ++ xs) (bare l)))
+        (λ l q e. ((numbered, single_lawful N n q, spells e), refl))
+        (λ l q e. ((numbered, single_lawful N n q, spells e), refl))
 
   forth : (bs : List ℕ) (f : Frame) → ByteString bs → decoded m N bs ≡ Some f → Lawful m N f × (written f ≡ bs)
   forth bs f o h =
-      let t = was_taken m N bs f h in
-      subst (λ (g : Frame). Lawful m N g × (written g ≡ bs)) t.1 (right bs o t.0)
+      let s = cond_some (good_kind m N bs && (good_length m N bs && (good_round m N bs && (good_range m N bs && good_element m N bs)))) (framed bs) f h in
+      let a = and_parts (good_kind m N bs) _ s.0 in
+      let b = and_parts (good_length m N bs) _ a.1 in
+      let c = and_parts (good_round m N bs) _ b.1 in
+      let d = and_parts (good_range m N bs) _ c.1 in
+      let k = and_parts (leb 1 (slice_index bs 0)) (leb (slice_index bs 0) 5) a.0 in
+      let l : length bs ≡ kind_length m.width (slice_index bs 0) = eqb-true _ _ b.0 in
+      let e : 7 ≤ length bs = omega (arith, kind_long m.width (slice_index bs 0)) in
+      let t : 7 + length (drop 7 bs) ≡ kind_length m.width (slice_index bs 0) = omega (arith, length-drop 7 bs) in
+      let w = right (round_of bs) (range_of bs) (drop 7 bs) (record { low = leb-true 1 _ c.0; high = round_below bs o e }) (bytes_drop 7 bs o) (slice_index bs 0) (leb-true 1 _ k.0) (leb-true _ 5 k.1) t d.0 d.1 in
+      subst (λ (g : Frame). Lawful m N g × (written g ≡ bs)) s.1 (w.0, w.1 ∙ whole bs o e)
 
 pub reads : {R : Type 0} {m : Model R} → Laws m → Reads m
 reads laws N few = record { back = back laws N few; forth = forth laws N few }

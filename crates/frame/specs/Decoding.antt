@@ -13,6 +13,10 @@ round_of bs = number (take 4 (drop 1 bs))
 abbrev pub range_of : List ℕ → ℕ
 range_of bs = number (take 2 (drop 5 bs))
 
+-- whether a number is that of a kind
+abbrev pub is_kind : ℕ → Bool
+is_kind k = nat_le 1 k && nat_le k 5
+
 -- how long a frame of a kind is, by the width of an element
 abbrev pub kind_length : ℕ → ℕ → ℕ
 kind_length width k = cond (k == 1) 15 (cond (nat_le k 3) 7 (7 + width))
@@ -25,17 +29,20 @@ range_suits N k n = cond (nat_le k 3) (nat_le 1 n && nat_lt n N) (nat_le N n && 
 abbrev pub element_suits : {R : Type 0} → Model R → ℕ → List ℕ → Bool
 element_suits m k bs = cond (nat_le k 3) true (is_some (m.parsed bs))
 
--- The frame of its kind.
+-- The frame of a kind, a round and a range, with the bytes that follow the header.
+abbrev pub frame_of : ℕ → ℕ → ℕ → List ℕ → Frame
+frame_of k r n rest =
+    cond (k == 1) (compare r n (number rest))
+    (cond (k == 2) (same r n)
+    (cond (k == 3) (differ r n)
+    (cond (k == 4) (offer r n rest) (held r n rest))))
+
 abbrev pub framed : List ℕ → Frame
-framed bs =
-    cond (kind_of bs == 1) (compare (round_of bs) (range_of bs) (number (drop 7 bs)))
-    (cond (kind_of bs == 2) (same (round_of bs) (range_of bs))
-    (cond (kind_of bs == 3) (differ (round_of bs) (range_of bs))
-    (cond (kind_of bs == 4) (offer (round_of bs) (range_of bs) (drop 7 bs)) (held (round_of bs) (range_of bs) (drop 7 bs)))))
+framed bs = frame_of (kind_of bs) (round_of bs) (range_of bs) (drop 7 bs)
 
 module _ {R : Type 0} (m : Model R) (N : ℕ) (bs : List ℕ) where
   abbrev pub good_kind : Bool
-  good_kind = nat_le 1 (kind_of bs) && nat_le (kind_of bs) 5
+  good_kind = is_kind (kind_of bs)
 
   abbrev pub good_length : Bool
   good_length = length bs == kind_length m.width (kind_of bs)

@@ -1,3 +1,4 @@
 pub mod Frames
-pub mod Views
 pub mod Decoding
+pub mod Kinds
+pub mod Views

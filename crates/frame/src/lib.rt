@@ -3,8 +3,10 @@
 
 mod decoding;
 mod encoding;
-mod fields;
+mod header;
+mod kind;
 mod message;
+mod parts;
 
 pub use decoding::decode;
 pub use encoding::encode;

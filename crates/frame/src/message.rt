@@ -1,10 +1,8 @@
 // What a frame says.
-ghost use Rattle.std.specs.Prelude.{◌≡◌};
-ghost use Rattle.frame.specs.Frames.{compare, same, differ};
-ghost use Rattle.frame.specs.Views.{viewed};
 
-// An element is told by its bytes, as a part of the memory that they came in: nothing is copied.
-#[derive(Clone, Copy)]
+// An element is told by its bytes, as a part of the memory that they came in: nothing is copied. Round and range stand
+// in each variant, so that one pattern tells all that a message has.
+#[derive(Clone, Copy, PartialEq, Eq, Debug)]
 pub enum Message<'a> {
     // asks whether the other replica has this digest of the range
     Compare {
@@ -34,30 +32,4 @@ pub enum Message<'a> {
         range: u16,
         part: &'a [u8],
     },
-}
-
-// The messages that bring no element. The prover does not follow a caller that makes one in place and lends it nothing,
-// so it takes one from here.
-impl<'a> Message<'a> {
-    pub fn compare(round: u32, range: u16, digest: u64) -> Message<'a>
-        ensures { viewed result ≡ compare round range digest }
-    {
-        Message::Compare {
-            round,
-            range,
-            digest,
-        }
-    }
-
-    pub fn same(round: u32, range: u16) -> Message<'a>
-        ensures { viewed result ≡ same round range }
-    {
-        Message::Same { round, range }
-    }
-
-    pub fn differ(round: u32, range: u16) -> Message<'a>
-        ensures { viewed result ≡ differ round range }
-    {
-        Message::Differ { round, range }
-    }
 }
