@@ -1,48 +1,10 @@
-// Cards as text.
-use crate::copies::SITES;
-use crate::ends::Cards;
-use kinds::{Card, SetRecord};
+// The copies and their roots, printed.
+use mast_sites::Copies;
 use std::io;
 
-// The positions that stand: added, and not removed since.
-fn print_positions(rt: &HostRuntime, record: SetRecord) -> io::Result<()> {
-    let (added, removed) = record.as_set().masks();
-    for position in 0..64u32 {
-        if (added & !removed) >> position & 1 == 1 {
-            print!(rt; " {position}")?;
-        }
-    }
-    Ok(())
-}
-
-fn print_card(rt: &HostRuntime, site: usize, card: &Card) -> io::Result<()> {
-    let height = card.first;
-    // Eight seats of 32 bits have a sum below 2 to the power 35. So `saturating_add` never meets its limit: it is here
-    // because the proof then needs no bound for the sum.
-    let mut samples = 0u64;
-    for seat in card.second.second.seats {
-        samples = samples.saturating_add(u64::from(seat));
-    }
-    let value = height.value;
-    let stamp = height.stamp;
-    let office = height.office;
-    print!(rt;
-        "  site {site}: {value} cm above ground (stamp {stamp}, office {office}), {samples} samples, positions"
-    )?;
-    print_positions(rt, card.second.first)?;
-    println!(rt; "")
-}
-
-fn print_copy(rt: &HostRuntime, copy: &[Card; SITES]) -> io::Result<()> {
-    for (site, card) in copy.iter().enumerate() {
-        print_card(rt, site, card)?;
-    }
-    Ok(())
-}
-
-pub(crate) fn print_cards(rt: &HostRuntime, when: &str, cards: &Cards) -> io::Result<()> {
-    println!(rt; "the office's copy {when} the round")?;
-    print_copy(rt, &cards.office)?;
-    println!(rt; "the laptop's copy {when} the round")?;
-    print_copy(rt, &cards.laptop)
+// Prints both copies, and the roots of their digest trees, by which a round first compares them.
+pub(crate) fn print_copies(rt: &HostRuntime, when: &str, copies: &Copies) -> io::Result<()> {
+    print!(rt; "the office's copy {when} the round\n{}", copies.office)?;
+    print!(rt; "the laptop's copy {when} the round\n{}", copies.laptop)?;
+    println!(rt; "roots {when}: {}", copies.roots())
 }

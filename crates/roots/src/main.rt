@@ -8,6 +8,7 @@ use std::alloc::{AllocError, Global};
 use tree::{build, renew};
 
 // A card that differs from key to key. Every seventh has a set that breaks its rule, and so stands for the empty one.
+// `rounds` has such positions and samples too, but corrects some: a crate for these two records would be no plainer.
 fn card_at(key: u16) -> Card {
     let number = u32::from(key);
     let positions = u64::from(key);
@@ -31,73 +32,69 @@ fn card_at(key: u16) -> Card {
     )
 }
 
+// How many cards there are.
+const SIZE: u16 = 4096;
+
 // A table of cards with its digest tree.
 #[derive(Drop)]
-struct Table {
+struct Table<D> {
+    digest: D,
     cards: Vec<Card>,
     digests: Vec<u64>,
 }
 
-impl Table {
-    fn new(heap: Global) -> Result<Table, AllocError> {
-        let mut cards = Vec::new(heap);
-        for _ in 0..4096 {
-            cards.push(Card::bottom())?;
-        }
-        let digests = vec![in heap; 0u64; 8192]?;
-        Ok(Table { cards, digests })
+impl<D: Digest + Drop> Table<D> {
+    fn new(heap: Global, digest: D) -> Result<Table<D>, AllocError> {
+        let size = usize::from(SIZE);
+        Ok(Table {
+            digest,
+            cards: vec![in heap; Card::bottom(); size]?,
+            digests: vec![in heap; 0; 2 * size]?,
+        })
     }
 
     // Joins each key's card into it.
-    fn fill(&mut self) {
-        for key in 0..4096u16 {
-            let _ = join_at(self.cards.as_mut_slice(), usize::from(key), card_at(key));
+    fn fill(&mut self) -> Result<(), Refusal> {
+        for key in 0..SIZE {
+            join_at(&mut self.cards, usize::from(key), card_at(key))?;
         }
+        Ok(())
     }
 
-    fn build<D: Digest>(&mut self, digest: &D) -> Result<(), Refusal> {
-        build(digest, self.cards.as_slice(), self.digests.as_mut_slice())
+    fn build(&mut self) -> Result<(), Refusal> {
+        build(&self.digest, &self.cards, &mut self.digests)
     }
 
     // Joins one more card into a key and renews the digests.
-    fn change<D: Digest>(&mut self, digest: &D, key: usize) -> Result<(), Refusal> {
-        join_at(self.cards.as_mut_slice(), key, card_at(5000))?;
-        renew(
-            digest,
-            self.cards.as_slice(),
-            self.digests.as_mut_slice(),
-            key,
-        )
+    fn change(&mut self, key: usize) -> Result<(), Refusal> {
+        join_at(&mut self.cards, key, card_at(5000))?;
+        renew(&self.digest, &self.cards, &mut self.digests, key)
     }
 
     // The digest of all keys, at place 1.
-    fn root(&self) -> u64 {
-        match self.digests.as_slice() {
-            [_, root, ..] => *root,
-            _ => 0,
-        }
+    fn root(&self) -> Result<u64, Refusal> {
+        self.digests.get(1).copied().ok_or(Refusal::Size)
     }
 }
 
-// Whether all went well, which it does where the tables fit.
-fn roots<D: Digest>(rt: &HostRuntime, name: &str, digest: &D) -> anyhow::Result<bool> {
-    let mut table = Table::new(rt.alloc())?;
-    let built = table.build(digest).is_ok();
-    println!(rt; "{name}: {:016x} of bottoms", table.root())?;
-    table.fill();
-    let rebuilt = table.build(digest).is_ok();
-    println!(rt; "{name}: {:016x} of cards", table.root())?;
-    let mut renewed = true;
+fn print_roots<D: Digest + Drop>(rt: &HostRuntime, name: &str, digest: D) -> anyhow::Result<()> {
+    let mut table = Table::new(rt.alloc(), digest)?;
+    table.build()?;
+    println!(rt; "{name}: {:016x} of bottoms", table.root()?)?;
+    table.fill()?;
+    table.build()?;
+    println!(rt; "{name}: {:016x} of cards", table.root()?)?;
     for key in [0, 1, 2048, 4095] {
-        renewed = table.change(digest, key).is_ok() && renewed;
+        table.change(key)?;
     }
-    println!(rt; "{name}: {:016x} after four joins", table.root())?;
-    Ok(built && rebuilt && renewed)
+    println!(rt; "{name}: {:016x} after four joins", table.root()?)?;
+    Ok(())
 }
 
+// A table that did not fit would have ended the program before the last line.
 fn main(rt: HostRuntime) -> anyhow::Result<()> {
-    let fnv = roots(&rt, "fnv", &Fnv)?;
-    let sum = roots(&rt, "sum", &Sum)?;
-    println!(rt; "all tables fit: {}", fnv && sum)?;
+    print_roots(&rt, "fnv", Fnv)?;
+    print_roots(&rt, "sum", Sum)?;
+    println!(rt; "all tables fit: true")?;
     Ok(())
 }

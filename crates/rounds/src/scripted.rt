@@ -1,86 +1,96 @@
 // Rounds over couriers, step by step.
-use crate::pairs::{Case, differing, open, pair_of, print_case, print_heights};
+use crate::cases::Case;
+use crate::names::Named;
 use crate::sites::Site;
-use anyhow::anyhow;
+use crate::trial::Trial;
+use anyhow::Context;
 use channel::Courier;
 use digest::Digest;
-use peers::{End, Peers};
+use element::Refusal;
+use peers::End;
 use replica::Answer;
-use std::io;
+use std::fmt;
 
-// For how many turns the ends step, and by which picks the couriers toward them go. Before turn `again` the left end
-// gives its round up and opens another; 0 is never.
+// For how many turns the ends step, and by which picks the couriers toward them go. Before turn `again`, if there is
+// one, the left end gives its round up and opens another.
 #[derive(Clone, Copy)]
 pub(crate) struct Script {
-    pub(crate) again: u32,
+    pub(crate) case: Case,
+    pub(crate) again: Option<u32>,
     pub(crate) turns: u32,
     pub(crate) to_left: &'static [u8],
     pub(crate) to_right: &'static [u8],
 }
 
-type Scripted<S, D> = Peers<S, D, Courier, Courier>;
+type Scripted<S, D> = Trial<S, D, Courier>;
+
+// What a step said. `demo_round` has words of its own for it: what each prints is fixed.
+#[derive(Drop)]
+struct Said(Result<Answer, Refusal>);
+
+impl fmt::Display for Said {
+    fn fmt<W: fmt::Write>(&self, f: &mut fmt::Formatter<W>) -> fmt::Result {
+        match self.0 {
+            Ok(Answer::Nothing) => write!(f, "nothing"),
+            Ok(Answer::Answered) => write!(f, "answered"),
+            Ok(Answer::Moved(range)) => write!(f, "moved to {range}"),
+            Ok(Answer::Complete(count)) => write!(f, "complete {count}"),
+            Err(refusal) => write!(f, "refused {}", refusal.number()),
+        }
+    }
+}
 
 // One step at one end, printed. An end that hears nothing asks again, if its round runs.
-fn print_step<S: Site, D: Digest>(
+fn print_step<S: Site, D: Digest + Drop>(
     rt: &HostRuntime,
-    pair: &mut Scripted<S, D>,
+    trial: &mut Scripted<S, D>,
     end: End,
-) -> io::Result<()> {
-    match pair.step(end) {
-        Ok(Answer::Nothing) => {
-            if pair.resend(end).is_ok() {
-                print!(rt; "nothing, asks again")
-            } else {
-                print!(rt; "nothing")
-            }
+) -> anyhow::Result<()> {
+    let said = trial.pair.step(end);
+    print!(rt; "{}", Said(said))?;
+    if let Ok(Answer::Nothing) = said {
+        match trial.pair.resend(end) {
+            Ok(()) => print!(rt; ", asks again")?,
+            Err(Refusal::Idle) => {}
+            Err(refusal) => return Err(refusal.into()),
         }
-        Ok(Answer::Answered) => print!(rt; "answered"),
-        Ok(Answer::Moved(range)) => print!(rt; "moved to {range}"),
-        Ok(Answer::Complete(count)) => print!(rt; "complete {count}"),
-        Err(refusal) => print!(rt; "refused {}", refusal.number()),
     }
+    Ok(())
 }
 
 // One turn: a step at the right end and one at the left.
-fn print_turn<S: Site, D: Digest>(
+fn print_turn<S: Site, D: Digest + Drop>(
     rt: &HostRuntime,
-    pair: &mut Scripted<S, D>,
+    trial: &mut Scripted<S, D>,
     turn: u32,
-) -> io::Result<()> {
+) -> anyhow::Result<()> {
     print!(rt; "  {turn}: right ")?;
-    print_step(rt, pair, End::Right)?;
+    print_step(rt, trial, End::Right)?;
     print!(rt; "; left ")?;
-    print_step(rt, pair, End::Left)?;
-    println!(rt; "")
+    print_step(rt, trial, End::Left)?;
+    println!(rt; "")?;
+    Ok(())
 }
 
-// Runs one case by its script and prints every step.
-pub(crate) fn scripted<S: Site, D: Digest + Drop>(
+// Runs a case by its script and prints every step.
+pub(crate) fn run_script<S: Site, D: Digest + Named + Drop>(
     rt: &HostRuntime,
-    name: &str,
     digest: D,
-    case: Case,
-    script: Script,
+    script: &Script,
 ) -> anyhow::Result<()> {
-    let size = case.size();
+    let heap = rt.alloc();
     let to_left = Courier::new(script.to_left);
     let to_right = Courier::new(script.to_right);
-    let mut pair: Scripted<S, D> = pair_of(rt, digest, &case, to_left, to_right)?;
-    print_case::<S>(rt, name, "courier", &case, differing(&pair, size))?;
-    println!(rt; "")?;
-    if !open(&mut pair, case.opens) {
-        return Err(anyhow!("a round was not opened"));
-    }
+    let mut trial: Scripted<S, D> = Trial::new(heap, digest, script.case, to_left, to_right)?;
+    println!(rt; "{trial}: {} differ", trial.differing(heap)?)?;
+    trial.open().context("a round was not opened")?;
     for turn in 1..=script.turns {
-        if turn == script.again {
-            if pair.abandon(End::Left).is_err() || pair.open(End::Left).is_err() {
-                return Err(anyhow!("no other round was opened"));
-            }
+        if script.again == Some(turn) {
+            trial.renew().context("no other round was opened")?;
             println!(rt; "  left abandons its round and opens another")?;
         }
-        print_turn(rt, &mut pair, turn)?;
+        print_turn(rt, &mut trial, turn)?;
     }
-    println!(rt; "  {} differ", differing(&pair, size))?;
-    print_heights(rt, &pair, size)?;
-    Ok(())
+    println!(rt; "  {} differ", trial.differing(heap)?)?;
+    trial.print_heights(rt)
 }

@@ -1,31 +1,26 @@
 // What the replicas hold: for each site an entry as it was first made, or as it was corrected at one end.
+use crate::cases::Case;
+use crate::names::Named;
 use element::Element;
 use kinds::{Card, Counter, Register, SetRecord, new_card};
+use peers::{End, Start};
 use std::alloc::{AllocError, Global};
 
-#[derive(Clone, Copy)]
-pub(crate) enum Change {
-    Unchanged,
-    AtLeft,
-    AtRight,
-}
-
 // An element with a height.
-pub(crate) trait Site: Element {
-    fn name() -> &'static str;
-
-    fn at(key: u16, change: Change) -> Self;
+pub(crate) trait Site: Element + Named {
+    // The element of a key, as it was corrected at an end, or as it was first made.
+    fn at(key: u16, corrected: Option<End>) -> Self;
 
     fn height(&self) -> u32;
 }
 
 // Both corrections have one stamp, so the office decides between them, and the lower height wins. The numbers are
 // chosen so that some corrections at the left end collide with others at the right under sum.
-fn register_at(key: u16, change: Change) -> Register {
-    let (later, office, more) = match change {
-        Change::Unchanged => (0, 0, 0),
-        Change::AtLeft => (5, 1, 505),
-        Change::AtRight => (5, 2, 250),
+fn register_at(key: u16, corrected: Option<End>) -> Register {
+    let (later, office, more) = match corrected {
+        None => (0, 0, 0),
+        Some(End::Left) => (5, 1, 505),
+        Some(End::Right) => (5, 2, 250),
     };
     Register {
         stamp: u64::from(key) * 7 + 1 + later,
@@ -35,31 +30,26 @@ fn register_at(key: u16, change: Change) -> Register {
 }
 
 // A set that breaks its rule where `key` is a multiple of 7 and nothing was corrected: it stands for the empty one.
-fn set_at(key: u16, change: Change) -> SetRecord {
+fn set_at(key: u16, corrected: Option<End>) -> SetRecord {
     let positions = u64::from(key);
-    let removed = positions & 5;
-    match change {
-        Change::Unchanged => SetRecord {
-            added: positions,
-            removed: if key % 7 == 0 { positions + 1 } else { removed },
-        },
-        Change::AtLeft => SetRecord {
-            added: positions + 0x100000,
-            removed,
-        },
-        Change::AtRight => SetRecord {
-            added: positions + 0x10000000000,
-            removed,
-        },
+    let more = match corrected {
+        None => 0,
+        Some(End::Left) => 0x100000,
+        Some(End::Right) => 0x10000000000,
+    };
+    let breaks = corrected.is_none() && key % 7 == 0;
+    SetRecord {
+        added: positions + more,
+        removed: if breaks { positions + 1 } else { positions & 5 },
     }
 }
 
-fn counter_at(key: u16, change: Change) -> Counter {
+fn counter_at(key: u16, corrected: Option<End>) -> Counter {
     let number = u32::from(key);
-    let (second, fourth) = match change {
-        Change::Unchanged => (0, 0),
-        Change::AtLeft => (9, 0),
-        Change::AtRight => (0, 23),
+    let (second, fourth) = match corrected {
+        None => (0, 0),
+        Some(End::Left) => (9, 0),
+        Some(End::Right) => (0, 23),
     };
     Counter {
         seats: [number, second, number / 2, fourth, 0, 0, 0, 4096],
@@ -67,12 +57,8 @@ fn counter_at(key: u16, change: Change) -> Counter {
 }
 
 impl Site for Register {
-    fn name() -> &'static str {
-        "register"
-    }
-
-    fn at(key: u16, change: Change) -> Register {
-        register_at(key, change)
+    fn at(key: u16, corrected: Option<End>) -> Register {
+        register_at(key, corrected)
     }
 
     fn height(&self) -> u32 {
@@ -81,15 +67,11 @@ impl Site for Register {
 }
 
 impl Site for Card {
-    fn name() -> &'static str {
-        "card"
-    }
-
-    fn at(key: u16, change: Change) -> Card {
+    fn at(key: u16, corrected: Option<End>) -> Card {
         new_card(
-            register_at(key, change),
-            set_at(key, change),
-            counter_at(key, change),
+            register_at(key, corrected),
+            set_at(key, corrected),
+            counter_at(key, corrected),
         )
     }
 
@@ -98,20 +80,15 @@ impl Site for Card {
     }
 }
 
-// The elements of all keys, of which some were corrected.
-pub(crate) fn table<S: Site>(
+// What an end of a case starts from: the elements of all keys, of which some were corrected there.
+pub(crate) fn start_of<S: Site>(
     heap: Global,
-    size: u16,
-    corrected: &[u16],
-    change: Change,
-) -> Result<Vec<S>, AllocError> {
-    let mut elements = Vec::new(heap);
-    for key in 0..size {
-        if corrected.contains(&key) {
-            elements.push(S::at(key, change))?;
-        } else {
-            elements.push(S::at(key, Change::Unchanged))?;
-        }
-    }
-    Ok(elements)
+    case: &Case,
+    end: End,
+) -> Result<Start<S>, AllocError> {
+    let corrected = case.corrected.at(end);
+    let elements = (0..case.size())
+        .map(|key| S::at(key, corrected.contains(&key).then_some(end)))
+        .collect(heap)?;
+    Ok(Start { elements, last: 0 })
 }
