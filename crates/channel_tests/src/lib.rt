@@ -14,7 +14,8 @@ mod tests {
     use super::*;
     use channel::{Channel, Courier, InOrder};
 
-    // Takes from `channel`: whether `frame` comes.
+    // Takes from `channel`: whether `frame` comes. The tests of replicas have this line too: a crate for it would be no
+    // plainer.
     fn comes<C: Channel>(channel: &mut C, frame: &[u8]) -> bool {
         channel
             .take()

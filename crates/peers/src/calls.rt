@@ -13,7 +13,8 @@ use element::{Element, Refusal};
 use replica::Answer;
 
 // Two arms a call. The channels of the ends are of two types, so no one expression names those of open, resend and step;
-// for lay and abandon a function that lends the owner of an end would need a clause on both owners after the loan.
+// for lay and abandon a function that lends the owner of an end would need a clause on both owners after the loan. And show
+// reads like the others.
 impl<E: Element, D: Digest, A: Channel, B: Channel> Peers<E, D, A, B> {
     // Joins an element into a key.
     pub fn lay(&mut self, end: End, key: usize, x: E) -> Result<(), Refusal>
