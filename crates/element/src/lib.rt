@@ -35,7 +35,7 @@ pub trait Element: Copy {
         ensures { result ≡ model.width };
 
     // Writes the element's bytes over the front of `out`, and leaves the rest. Where `out` is shorter than
-    // they are, it writes nothing and answers false.
+    // they are, it writes nothing and answers false: a bool, as `place` has it.
     fn write(&self, out: &mut [u8]) -> bool
         ensures fits { result ≡ nat_le model.width (length out.old) }
         ensures after { out.new ≡ placed (model.written self.now) out.old };

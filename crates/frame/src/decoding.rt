@@ -16,7 +16,7 @@ pub fn decode<'a, E: Element>(size: usize, frame: &'a [u8]) -> Result<Message<'a
     ensures answer { MatchResult result (λ m. decoded E.Element.model size frame.now ≡ Some (viewed m)) (λ e. (e ≡ Frame) × (decoded E.Element.model size frame.now ≡ None)) }
     ensures codec { Reads E.Element.model }
 {
-    // By the rule for the decoder each question is a `let .. else` with its refusal beside it, and no `?`.
+    // By the decoder's rule (docs/DECISIONS.md) each question is a `let .. else` with its refusal beside it, and no `?`.
     let [number, ..] = frame else {
         return Err(Refusal::Frame);
     };

@@ -6,8 +6,8 @@ ghost use Rattle.tree.specs.Sizes.{sized};
 
 #[derive(Clone, Copy)]
 pub struct Round {
-    // By the rule for round records these are plain numbers with an invariant, no Option: `state_of` reads them as a state,
-    // and that a round runs is a fact which a method requires, and no type.
+    // By the rule for round records (docs/DECISIONS.md) these are plain numbers with an invariant, no Option: `state_of`
+    // reads them as a state, and that a round runs is a fact which a method requires, and no type.
     // the number of keys
     pub(crate) size: u16,
     // the last round number that was used
