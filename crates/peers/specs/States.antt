@@ -34,6 +34,10 @@ Owns m h s (Ok o) = (sized (size_of s) ≡ true) × (owned o ≡ fresh m h s) ×
 Owns m h s (Err (Refused z)) = (sized (size_of s) ≡ false) × (z ≡ Size)
 Owns m h s (Err Memory) = sized (size_of s) ≡ true
 
+-- The digest that both replicas are under.
+abbrev pub digest_of : {E D A B : Type 0} → Peers E D A B → D
+digest_of p = p.digest
+
 module _ {E D A B : Type 0} (a : Link A) (b : Link B) where
   abbrev pub replicas : Peers E D A B → End → Replica E
   replicas p left = owned p.left

@@ -3,7 +3,7 @@ ghost use Rattle.std.specs.Prelude.{◌≡◌};
 ghost use Rattle.replica.specs.Calls.{show_answer};
 ghost use Rattle.peers.specs.Pairs.{laid, opened, resent, abandoned, lines};
 ghost use Rattle.peers.specs.Promise.{Promise};
-ghost use Rattle.peers.specs.States.{replicas, Goes, StepsTo};
+ghost use Rattle.peers.specs.States.{digest_of, replicas, Goes, StepsTo};
 
 use crate::end::End;
 use crate::pair::Peers;
@@ -58,7 +58,7 @@ impl<E: Element, D: Digest, A: Channel, B: Channel> Peers<E, D, A, B> {
 
     // What a key holds.
     pub fn show(&self, end: End, key: usize) -> Result<E, Refusal>
-        ensures { result ≡ show_answer E.Element.model (D.Digest.function self.now.digest) (replicas A.Channel.link B.Channel.link self.now end) key }
+        ensures { result ≡ show_answer E.Element.model (D.Digest.function (digest_of self.now)) (replicas A.Channel.link B.Channel.link self.now end) key }
     {
         match end {
             End::Left => self.left.show(&self.digest, key),
@@ -70,7 +70,7 @@ impl<E: Element, D: Digest, A: Channel, B: Channel> Peers<E, D, A, B> {
     // promised of it holds.
     pub fn step(&mut self, end: End) -> Result<Answer, Refusal>
         ensures goes { StepsTo A.Channel.link B.Channel.link E.Element.model D.Digest.function end result self.old self.new }
-        ensures promise { Promise E.Element.model (D.Digest.function self.old.digest) (lines A.Channel.link B.Channel.link) }
+        ensures promise { Promise E.Element.model (D.Digest.function (digest_of self.old)) (lines A.Channel.link B.Channel.link) }
     {
         match end {
             End::Left => self
