@@ -31,7 +31,9 @@ pub(crate) fn make_pair(heap: Global) -> anyhow::Result<Pair> {
     let laptop = start_from(heap, &before.laptop)?;
     let to_office = Courier::new(&TO_OFFICE);
     let to_laptop = Courier::new(&TO_LAPTOP);
-    Peers::make(heap, Fnv, office, laptop, to_office, to_laptop).context("the pair was not made")
+    Peers::make(heap, Fnv, office, laptop, to_office, to_laptop)
+        .ok()
+        .context("the pair was not made")
 }
 
 // What an end holds at each site.

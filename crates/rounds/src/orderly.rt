@@ -65,9 +65,9 @@ fn run_case<S: Site, D: Digest + Named + Drop>(
 ) -> anyhow::Result<()> {
     let heap = rt.alloc();
     let mut trial: Orderly<S, D> = Trial::new(heap, digest, case, InOrder::new(), InOrder::new())?;
-    let before = trial.differing(heap)?;
+    let before = trial.differing()?;
     let first = complete(&mut trial)?;
-    let between = trial.differing(heap)?;
+    let between = trial.differing()?;
     let second = complete(&mut trial)?;
     println!(rt; "{trial}: {before} differ; {first}; {between} differ; then {second}")?;
     if case.depth <= 3 {

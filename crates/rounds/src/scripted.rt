@@ -82,7 +82,7 @@ pub(crate) fn run_script<S: Site, D: Digest + Named + Drop>(
     let to_left = Courier::new(script.to_left);
     let to_right = Courier::new(script.to_right);
     let mut trial: Scripted<S, D> = Trial::new(heap, digest, script.case, to_left, to_right)?;
-    println!(rt; "{trial}: {} differ", trial.differing(heap)?)?;
+    println!(rt; "{trial}: {} differ", trial.differing()?)?;
     trial.open().context("a round was not opened")?;
     for turn in 1..=script.turns {
         if script.again == Some(turn) {
@@ -91,6 +91,6 @@ pub(crate) fn run_script<S: Site, D: Digest + Named + Drop>(
         }
         print_turn(rt, &mut trial, turn)?;
     }
-    println!(rt; "  {} differ", trial.differing(heap)?)?;
+    println!(rt; "  {} differ", trial.differing()?)?;
     trial.print_heights(rt)
 }

@@ -27,9 +27,9 @@ impl<S: Site, D: Digest + Drop, C: Channel + Drop> Trial<S, D, C> {
     ) -> anyhow::Result<Trial<S, D, C>> {
         let left = start_of(heap, &case, End::Left)?;
         let right = start_of(heap, &case, End::Right)?;
-        let pair = Peers::make(heap, digest, left, right, to_left, to_right).context(
-            "the pair was not made",
-        )?;
+        let pair = Peers::make(heap, digest, left, right, to_left, to_right)
+            .ok()
+            .context("the pair was not made")?;
         Ok(Trial { pair, case })
     }
 
@@ -47,33 +47,27 @@ impl<S: Site, D: Digest + Drop, C: Channel + Drop> Trial<S, D, C> {
         self.pair.open(End::Left)
     }
 
-    // What an end holds, key by key.
-    fn held(&self, heap: Global, end: End) -> anyhow::Result<Vec<S>> {
-        (0..self.case.size())
-            .map(|key| self
-                .pair
-                .show(end, usize::from(key))
-                .map_err(anyhow::Error::from))
-            .try_collect(heap)
-    }
-
-    // At how many keys the ends hold different elements.
-    pub(crate) fn differing(&self, heap: Global) -> anyhow::Result<usize> {
-        let left = self.held(heap, End::Left)?;
-        let right = self.held(heap, End::Right)?;
-        Ok(
-            left.iter()
-                .zip(&right)
-                .filter(|(x, y)| !same(**x, **y))
-                .count(),
-        )
+    // At how many keys the ends hold different elements. Asked key by key, so that no copies are made to compare.
+    // `saturating_add` is here because the proof then needs no bound.
+    pub(crate) fn differing(&self) -> Result<u16, Refusal> {
+        let mut number = 0u16;
+        for key in 0..self.case.size() {
+            let key = usize::from(key);
+            let left = self.pair.show(End::Left, key)?;
+            let right = self.pair.show(End::Right, key)?;
+            if !same(left, right) {
+                number = number.saturating_add(1);
+            }
+        }
+        Ok(number)
     }
 
     // Prints the heights that both ends hold.
     pub(crate) fn print_heights(&self, rt: &HostRuntime) -> anyhow::Result<()> {
         for (name, end) in [("left", End::Left), ("right", End::Right)] {
             print!(rt; "  {name}:")?;
-            for x in self.held(rt.alloc(), end)?.iter() {
+            for key in 0..self.case.size() {
+                let x = self.pair.show(end, usize::from(key))?;
                 print!(rt; " {}", x.height())?;
             }
             println!(rt; "")?;
