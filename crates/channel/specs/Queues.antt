@@ -1,6 +1,12 @@
 -- The in-order channel: 64 places, first in, first out.
-use Rattle.std.specs.Prelude.{◌≡◌, ℕ, Bool, cond, ◌&&◌, List, [], ◌∷◌, ◌++◌, length, drop, Some, None, Option, nat_le, nat_lt}
+use Rattle.std.specs.Prelude.{◌≡◌, ◌≤◌, ℕ, Bool, cond, ◌&&◌, List, [], ◌∷◌, ◌++◌, length, drop, Some, None, Option, nat_le, nat_lt}
+use mathlib.Core.List.{Memᴰ}
 use Rattle.channel.specs.Links.{Link}
+
+-- Among n places wait at most n frames, and none of more than 71 bytes.
+pub record WaitIn (n : ℕ) (ws : List (List ℕ)) : Type 0 where
+  pub many : length ws ≤ n
+  pub few : (f : List ℕ) → Memᴰ f ws → length f ≤ 71
 
 -- A put among n places keeps frame f where fewer than n frames wait and f can be carried. Else f is lost.
 abbrev pub kept : ℕ → List (List ℕ) → List ℕ → Bool

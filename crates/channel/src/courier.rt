@@ -1,6 +1,7 @@
 // The courier: a channel that repeats, delays, reorders and loses frames, as a list of bytes says.
 ghost use Rattle.std.specs.Prelude.{◌≡◌, ◌≤◌, [], length, take};
-ghost use Rattle.channel.specs.Couriers.{courier};
+ghost use Rattle.channel.specs.Couriers.{courier, picked, stowed};
+ghost use Rattle.channel.specs.Queues.{WaitIn};
 ghost use Rattle.channel.specs.Picking.{fair_courier};
 
 use crate::packet::Packet;
@@ -17,11 +18,15 @@ pub struct Courier {
 
 // Clauses see the frames that wait and the picks that are left.
 impl Model for Courier {
+    ghost use Rattle.std.specs.Prelude.{◌≤◌, length};
     ghost use Rattle.channel.specs.Couriers.{Cargo};
+    ghost use Rattle.channel.specs.Queues.{WaitIn};
 
     ghost Value = { Cargo };
 
     ghost view = { λ c. record { waiting = c.places; picks = c.picks } };
+
+    ghost invariant = { λ c. WaitIn 64 c.places × (length c.picks ≤ 64) };
 }
 
 impl Courier {
@@ -39,6 +44,7 @@ impl Courier {
     pub fn waiting(&self) -> usize
         ensures count { result ≡ length self.now.waiting }
         ensures within { result ≤ 64 }
+        ensures waits { WaitIn 64 self.now.waiting }
     {
         self.places.len()
     }
@@ -57,13 +63,21 @@ impl Channel for Courier {
 
     ghost fair = { fair_courier _ };
 
-    fn put(&mut self, frame: &[u8]) {
+    fn put(&mut self, frame: &[u8])
+        ensures puts { self.new ≡ stowed self.old frame.now }
+        ensures waits { WaitIn 64 self.new.waiting }
+        ensures picks { length self.new.picks ≤ 64 }
+    {
         self.places.put(frame);
     }
 
     // A pick names a frame among those that wait. Below 128 that frame is answered and stays, so it may come again; from
     // 128 on it is removed, so it is lost.
-    fn take(&mut self) -> Option<Packet> {
+    fn take(&mut self) -> Option<Packet>
+        ensures takes { picked self.old.waiting self.old.picks ≡ record { came = result; left = self.new } }
+        ensures waits { WaitIn 64 self.new.waiting }
+        ensures picks { length self.new.picks ≤ 64 }
+    {
         if self.places.is_empty() {
             return None;
         }

@@ -1,6 +1,6 @@
 // The in-order channel: 64 places, first in, first out.
 ghost use Rattle.std.specs.Prelude.{◌≡◌, ◌≤◌, [], length};
-ghost use Rattle.channel.specs.Queues.{queue};
+ghost use Rattle.channel.specs.Queues.{after_put, queue, Shifted, WaitIn};
 ghost use Rattle.channel.specs.Queueing.{fair_queue};
 
 use crate::packet::Packet;
@@ -36,6 +36,7 @@ impl InOrder {
     pub fn waiting(&self) -> usize
         ensures count { result ≡ length self.now }
         ensures within { result ≤ 64 }
+        ensures waits { WaitIn 64 self.now }
     {
         self.places.len()
     }
@@ -46,11 +47,17 @@ impl Channel for InOrder {
 
     ghost fair = { fair_queue _ };
 
-    fn put(&mut self, frame: &[u8]) {
+    fn put(&mut self, frame: &[u8])
+        ensures puts { self.new ≡ after_put self.old frame.now }
+        ensures waits { WaitIn 64 self.new }
+    {
         self.places.put(frame);
     }
 
-    fn take(&mut self) -> Option<Packet> {
+    fn take(&mut self) -> Option<Packet>
+        ensures takes { Shifted self.old result self.new }
+        ensures waits { WaitIn 64 self.new }
+    {
         self.places.remove(0)
     }
 }

@@ -1,6 +1,6 @@
 // Places in which a channel keeps the frames that wait.
 ghost use Rattle.std.specs.Prelude.{◌≡◌, ◌≤◌, ◌↔◌, [], length, remove, slice_get, IsTrue};
-ghost use Rattle.channel.specs.Queues.{put_among};
+ghost use Rattle.channel.specs.Queues.{put_among, WaitIn};
 
 use crate::packet::Packet;
 use std::marker::Model;
@@ -16,12 +16,13 @@ pub struct Places<const N: usize> {
 // Clauses see the frames that wait, the oldest first.
 impl<const N: usize> Model for Places<N> {
     ghost use Rattle.std.specs.Prelude.{ℕ, ◌≤◌, List, take};
+    ghost use Rattle.channel.specs.Queues.{WaitIn};
 
     ghost Value = { List (List ℕ) };
 
     ghost view = { λ p. take p.waiting p.packets };
 
-    ghost invariant = { λ p. p.waiting ≤ N };
+    ghost invariant = { λ p. (p.waiting ≤ N) × WaitIn N (take p.waiting p.packets) };
 }
 
 impl<const N: usize> Places<N> {
@@ -39,6 +40,7 @@ impl<const N: usize> Places<N> {
     pub fn len(&self) -> usize
         ensures count { result ≡ length self.now }
         ensures within { result ≤ N }
+        ensures waits { WaitIn N self.now }
     {
         self.packets[..self.waiting].len()
     }
@@ -57,8 +59,10 @@ impl<const N: usize> Places<N> {
     }
 
     // The frame joins at the end, or is lost where `N` wait or no packet can hold it.
+    #[tactic(auto, using(crate::proofs::Waiting::put_in, crate::proofs::Waiting::put_full))]
     pub fn put(&mut self, frame: &[u8])
-        ensures { self.new ≡ put_among N self.old frame.now }
+        ensures after { self.new ≡ put_among N self.old frame.now }
+        ensures waits { WaitIn N self.new }
     {
         if self.waiting == N {
             return;
@@ -74,6 +78,7 @@ impl<const N: usize> Places<N> {
     pub fn remove(&mut self, at: usize) -> Option<Packet>
         ensures removed { result ≡ slice_get self.old at }
         ensures left { self.new ≡ remove self.old at }
+        ensures waits { WaitIn N self.new }
     {
         let removed = self.get(at)?;
         self.packets.copy_within(at + 1..self.waiting, at);

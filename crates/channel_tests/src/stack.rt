@@ -1,6 +1,7 @@
 // A channel of 4 places that answers the newest frame first.
 ghost use Rattle.std.specs.Prelude.{◌≡◌, ◌≤◌, [], length};
-ghost use Rattle.channel_tests.specs.Stacks.{stack};
+ghost use Rattle.channel.specs.Queues.{put_among, WaitIn};
+ghost use Rattle.channel_tests.specs.Stacks.{stack, Popped};
 ghost use Rattle.channel_tests.specs.Stacking.{fair_stack};
 
 use channel::{Channel, Packet, Places};
@@ -34,6 +35,7 @@ impl Stack {
     pub fn waiting(&self) -> usize
         ensures count { result ≡ length self.now }
         ensures within { result ≤ 4 }
+        ensures waits { WaitIn 4 self.now }
     {
         self.places.len()
     }
@@ -44,11 +46,17 @@ impl Channel for Stack {
 
     ghost fair = { fair_stack _ };
 
-    fn put(&mut self, frame: &[u8]) {
+    fn put(&mut self, frame: &[u8])
+        ensures puts { self.new ≡ put_among 4 self.old frame.now }
+        ensures waits { WaitIn 4 self.new }
+    {
         self.places.put(frame);
     }
 
-    fn take(&mut self) -> Option<Packet> {
+    fn take(&mut self) -> Option<Packet>
+        ensures takes { Popped self.old result self.new }
+        ensures waits { WaitIn 4 self.new }
+    {
         let newest = self.places.len().checked_sub(1)?;
         self.places.remove(newest)
     }
