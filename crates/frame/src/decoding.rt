@@ -26,7 +26,8 @@ pub fn decode<'a, E: Element>(size: usize, frame: &'a [u8]) -> Result<Message<'a
     let Some(parts) = Parts::new(kind, E::width(), frame) else {
         return Err(Refusal::Frame);
     };
-    let 1.. = parts.header.round else {
+    let round = parts.header.round;
+    let 1.. = round else {
         return Err(Refusal::Frame);
     };
     let true = parts.header.range_fits(size) else {

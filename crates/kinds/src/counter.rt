@@ -1,7 +1,8 @@
 // The counter of field samples: eight seats, one for each field party.
-ghost use Rattle.std.specs.Prelude.{◌≡◌};
+ghost use Rattle.std.specs.Prelude.{◌≡◌, ◌+◌, ◌≤◌, take, drop};
 ghost use Rattle.std.specs.List.{flat_map};
 ghost use Rattle.kinds.specs.Counters.{counter, counter_of};
+ghost use Rattle.element.specs.Bytes.{number};
 ghost use Rattle.element.specs.Ruled.{ruled};
 ghost use Rattle.kinds.specs.CountersLemmas.{sound};
 ghost use Rattle.element.proofs.Rules;
@@ -31,6 +32,14 @@ fn to_bytes(seats: &[u32; 8]) -> [[u8; 4]; 8]
     seats.map(u32::to_be_bytes)
 }
 
+// The seat that the four bytes from place `at` on spell.
+fn seat_at(bytes: &[u8; 32], at: usize) -> u32
+    requires { at + 4 ≤ 32 }
+    ensures { result ≡ number (take 4 (drop at bytes.now)) }
+{
+    u32::from_be_bytes([bytes[at], bytes[at + 1], bytes[at + 2], bytes[at + 3]])
+}
+
 impl Element for Counter {
     ghost model = { ruled counter };
 
@@ -55,12 +64,9 @@ impl Element for Counter {
     }
 
     fn read(bytes: &[u8]) -> Option<Counter> {
-        let (words, []) = bytes.as_chunks::<4>() else {
-            return None;
-        };
-        let words: &[_; 8] = words.as_array()?;
+        let bytes = bytes.as_array()?;
         Some(Counter {
-            seats: words.map(u32::from_be_bytes),
+            seats: array::from_fn(|i| seat_at(bytes, 4 * i)),
         })
     }
 }

@@ -65,9 +65,10 @@ impl SetRecord {
         ensures { result ≡ spelt_set bytes.now }
     {
         let (added, rest) = bytes.split_first_chunk()?;
+        let removed: &[u8; 8] = rest.as_array()?;
         Some(SetRecord {
             added: u64::from_be_bytes(*added),
-            removed: u64::from_be_bytes(*rest.as_array()?),
+            removed: u64::from_be_bytes(*removed),
         })
     }
 

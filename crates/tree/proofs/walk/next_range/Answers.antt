@@ -1,4 +1,4 @@
-use Rattle.std.proofs.Common.{sym, ◌∙◌, arith}
+use Rattle.std.proofs.Common.{sym, ◌∙◌, arith, rules}
 use Rattle.tree.proofs.Following.{after_all_ones, left_fits, after_end, after_left}
 use Rattle.tree.proofs.walk.next_range.Goals as goal
 
@@ -10,17 +10,17 @@ returns-in_err-halved-clause-value c =
 pub overflow_add-result : goal.overflow_add-result
 overflow_add-result c =
     let h = c.in_ok-halved in
-    let f = left_fits c.args.range _ _ (omega arith) c.trailing_ones.ensures h.ensures.0 h.ensures.1 in
+    let f = left_fits c.args.range _ _ (omega arith) (search rules) h.ensures.0 h.ensures.1 in
     omega arith
 
 pub returns-then-range-gt0-clause-value : goal.returns-then-range-gt0-clause-value
 returns-then-range-gt0-clause-value c =
     let h = c.in_ok-halved in
-    let v = after_end c.args.range _ _ (omega arith) c.trailing_ones.ensures h.ensures.0 h.ensures.1 c.if-range-gt0.true c.if-halved-eq0.true in
+    let v = after_end c.args.range _ _ (omega arith) (search rules) h.ensures.0 h.ensures.1 c.if-range-gt0.true c.if-halved-eq0.true in
     sym v
 
 pub returns-else-halved-eq0-clause-value : goal.returns-else-halved-eq0-clause-value
 returns-else-halved-eq0-clause-value c =
     let h = c.in_ok-halved in
-    let v = after_left c.args.range _ _ (omega arith) c.trailing_ones.ensures h.ensures.0 h.ensures.1 c.else-halved-eq0.either in
+    let v = after_left c.args.range _ _ (omega arith) (search rules) h.ensures.0 h.ensures.1 c.else-halved-eq0.either in
     sym v

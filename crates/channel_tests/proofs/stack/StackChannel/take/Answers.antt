@@ -1,4 +1,4 @@
-use Rattle.std.proofs.Common.{◌≡◌, ℕ, zero, suc, List, [], ◌∷◌, ◌++◌, length, get_or, slice_get, remove, Option, refl, ap, sym, subst, ◌∙◌, arith}
+use Rattle.std.proofs.Common.{rules, ◌≡◌, ℕ, zero, suc, List, [], ◌∷◌, ◌++◌, length, get_or, slice_get, remove, Option, refl, ap, sym, subst, ◌∙◌, arith}
 use Rattle.std.proofs.lemmas.Option.{slice_get-get_or}
 use Rattle.channel_tests.specs.Stacks.{Popped}
 use Rattle.channel_tests.proofs.stack.StackChannel.take.Goals as goal
@@ -15,8 +15,8 @@ popped us ws vs o n e f g h =
     let some = g ∙ slice_get-get_or us n [] (omega arith) in
     subst (λ (p : Option (List ℕ)). Popped ws p vs) (sym some) (sym f ∙ last us n e ∙ ap (λ (xs : List (List ℕ)). xs ++ (get_or us n [] ∷ [])) (sym h))
 
-pub returns : goal.returns
-returns c =
+pub returns-clause-takes : goal.returns-clause-takes
+returns-clause-takes c =
     let counted = c.len.ensures.count in
     let newest = c.in_ok-newest.ensures in
-    popped _ _ _ _ _ (omega arith) c.self.view_is c.remove.ensures.removed c.remove.ensures.left
+    popped _ _ _ _ _ (omega arith) c.self.view_is (search rules) c.remove.ensures.left
