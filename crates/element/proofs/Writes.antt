@@ -1,12 +1,22 @@
 -- What a write at the front of lent memory leaves.
-use Rattle.std.proofs.Common.{◌≡◌, ℕ, ◌+◌, ◌-◌, ◌≤◌, List, [], ◌++◌, length, take, drop, sym, ap, ◌∙◌, arith, length-append, length-drop}
+use Rattle.std.proofs.Common.{◌≡◌, ℕ, ◌+◌, ◌-◌, ◌<◌, ◌≤◌, Bool, leb, List, [], ◌++◌, length, take, drop, sym, ap, ◌∙◌, arith, length-append, length-drop}
 use borrow.Rule.Slice.PartMut.{put_mid}
 use Rattle.std.proofs.lemmas.List.{append-nil, append_assoc, take_at, take_rest, drop_all, drop_at, drop-drop}
-use Rattle.std.proofs.lemmas.Bool.{cond-true, le-leb}
+use Rattle.std.proofs.lemmas.Bool.{cond-true, cond-false, le-leb, lt-leb}
 use Rattle.element.specs.Bytes.{placed}
+
+-- What `place` ensures of bs, for cs of length n, where the two are the same.
+pub placed_as : (out : List ℕ) {bs cs last : List ℕ} {n : ℕ} {r : Bool} → bs ≡ cs → length cs ≡ n → r ≡ leb (length bs) (length out) → last ≡ placed bs out → (r ≡ leb n (length out)) × (last ≡ placed cs out)
+placed_as out e l fits after = (
+  fits ∙ ap (λ (xs : List ℕ). leb (length xs) (length out)) e ∙ ap (λ (k : ℕ). leb k (length out)) l,
+  after ∙ ap (λ (xs : List ℕ). placed xs out) e,
+)
 
 pub placed_room : (bs out : List ℕ) → length bs ≤ length out → placed bs out ≡ bs ++ drop (length bs) out
 placed_room bs out h = cond-true _ _ out (le-leb _ _ h)
+
+pub placed_short : (bs out : List ℕ) → length out < length bs → placed bs out ≡ out
+placed_short bs out h = cond-false _ (bs ++ drop (length bs) out) out (lt-leb _ _ h)
 
 -- a at the front of out, and then b at the front of what comes after a
 pub placed_parts : (out a b : List ℕ) (n : ℕ) (mid part : List ℕ) → length a ≡ n → n + length b ≤ length out → mid ≡ placed a out → part ≡ placed b (take (length mid - n) (drop n mid)) → put_mid n (length mid - n) mid part ≡ placed (a ++ b) out

@@ -11,7 +11,7 @@ use Rattle.element.specs.declared.pair.Pair.{Pair}
 use Rattle.element.specs.Numbers.{bytes_append, bytes_take, bytes_drop}
 
 -- an answer that is given only under a condition
-when_some : {A : Type 0} (b : Bool) (p : Option A) (x : A) → cond b p None ≡ Some x → (b ≡ true) × (p ≡ Some x)
+pub when_some : {A : Type 0} (b : Bool) (p : Option A) (x : A) → cond b p None ≡ Some x → (b ≡ true) × (p ≡ Some x)
 when_some true p x h = (refl, h)
 when_some false p x h = absurd (none-some x h)
 

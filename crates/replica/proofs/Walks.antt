@@ -1,5 +1,5 @@
 -- What the walk of a running round tells of its range and its count.
-use Rattle.std.proofs.Common.{◌≡◌, ℕ, ◌+◌, ◌*◌, ◌<◌, true, [], ◌∷◌, Some, refl, subst, arith}
+use Rattle.std.proofs.Common.{◌≡◌, ℕ, ◌+◌, ◌*◌, ◌<◌, ◌≤◌, true, [], ◌∷◌, Some, refl, subst, arith}
 use mathlib.Core.Logic.{∥∥₁_elim}
 use native.Mathlib.Bridge.{le_prop}
 use Rattle.tree.specs.Sizes.{sized}
@@ -9,8 +9,11 @@ use Rattle.tree.proofs.Sizing.{size_of}
 use Rattle.replica.specs.Walking.{Walked}
 
 -- a round starts at range 1 with nothing counted
+pub start : (N : ℕ) → sized N ≡ true → Walked N 1 0
+start N h = let s = size_of N h in record { depth = s.depth; power = s.power; passed = []; walk = refl; counted = refl }
+
 pub walk_starts : (N : ℕ) → sized N ≡ true → ∥ Walked N 1 0 ∥₁
-walk_starts N h = let s = size_of N h in ∣ record { depth = s.depth; power = s.power; passed = []; walk = refl; counted = refl } ∣₁
+walk_starts N h = ∣ start N h ∣₁
 
 module _ {N range count : ℕ} where
   -- the range is split
@@ -35,6 +38,9 @@ module _ {N range count : ℕ} where
         counted = let c = w.counted in omega arith;
       }
 
+  low : Walked N range count → 1 ≤ range
+  low w = ((preorder w.depth).ranges w.passed range w.walk).0
+
   high : Walked N range count → range < 2 * N
   high w = let h = ((preorder w.depth).ranges w.passed range w.walk).1 in let p = w.power in omega arith
 
@@ -44,6 +50,9 @@ module _ {N range count : ℕ} where
 
   -- the same of what a record keeps
   module _ (w : ∥ Walked N range count ∥₁) where
+    pub range_low : 1 ≤ range
+    range_low = ∥∥₁_elim w le_prop low
+
     pub range_high : range < 2 * N
     range_high = ∥∥₁_elim w le_prop high
 

@@ -96,7 +96,7 @@ module _ {R : Type 0} (m : Model R) (h : List ℕ → ℕ) (es : List R) where
     at_halves : (n : ℕ) → 1 ≤ n → n < length es → Holds (2 * n) → Holds (2 * n + 1) → Holds n
     at_halves n low b x y = nodes n low b ∙ ap₂ (λ (x y : ℕ). h (node_bytes x y)) x y ∙ ap h (sym (digested_node small n low b)) ∙ sym (digest_is n)
 
-    built : length ds ≡ 2 * length es → get_or ds 0 0 ≡ 0 → ds ≡ tree m h es
+    pub built : length ds ≡ 2 * length es → get_or ds 0 0 ≡ 0 → ds ≡ tree m h es
     built l z = tree_from ds l z (upward Holds (length es) at_key at_halves)
 
   -- the digests of the single keys, then of the others, then place 0: what a build leaves

@@ -120,7 +120,7 @@ module _ {R : Type 0} (m : Model R) (h : List ℕ → ℕ) where
             ∙ ap h (digested_node m h es small n low s)
             ∙ whole _ _ (half off (2 * n) (omega arith) (omega arith) (omega arith) y) (half off (2 * n + 1) (omega arith) (omega arith) (omega arith) z)
 
-    renewed_tree : 1 ≤ length es → ds' ≡ tree m h new
+    pub renewed_tree : 1 ≤ length es → ds' ≡ tree m h new
     renewed_tree one =
         tree_from m h new ds'
         (rule.long ∙ tree_long m h es ∙ ap (λ (n : ℕ). 2 * n) (sym same_long))
